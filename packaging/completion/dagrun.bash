@@ -42,7 +42,7 @@ _dagrun() {
         run) options='--maxjobs --maxpre --maxpost --autorescue --dorescuefrom --always-run-post --stop-at-first-error --sync-output --script-output --log-limit --status-file --status-every --launcher --launcher-final --launcher-grace --orphans --progress --resume --json --trust-owner --help' ;;
         status) options='--json --as-begun --trust-owner --help' ;;
         why) options='--all --json --as-begun --trust-owner --help' ;;
-        times) options='--svg --json --summary --as-begun --trust-owner --help' ;;
+        times) options='--svg --json --summary --rounds --as-begun --trust-owner --help' ;;
         report) options='--reload --as-begun --trust-owner --help' ;;
         salvage) options='--ended --trust-owner --help' ;;
         redo) options='--only --trust-owner --help' ;;

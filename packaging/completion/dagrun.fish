@@ -48,6 +48,7 @@ complete -c dagrun -n '__fish_seen_subcommand_from why; and count (__dagrun_dag)
 complete -c dagrun -n '__fish_seen_subcommand_from times' -l svg -d 'A picture of the run over time, in place of a table'
 complete -c dagrun -n '__fish_seen_subcommand_from times' -l json -d 'The phases as JSON, for other programs, in place of a table'
 complete -c dagrun -n '__fish_seen_subcommand_from times' -l summary -d 'Where the time went, in place of a table: the critical path, what it waited for, and what more at once could gain'
+complete -c dagrun -n '__fish_seen_subcommand_from times' -l rounds -d 'A row for each round, in place of one for each phase: the last one, and the one before, by x.dag.log.old'
 complete -c dagrun -n '__fish_seen_subcommand_from times' -l as-begun -d 'Goes by the files with which the round began, as x.dag.begun keeps them, whatever was changed since'
 complete -c dagrun -n '__fish_seen_subcommand_from times' -l trust-owner -d 'Root goes by the journal, the rescue files and the lock of another user, and others by those of root'
 complete -c dagrun -n '__fish_seen_subcommand_from report' -l reload -d 'The page loads itself again every 5 seconds while the round runs'

@@ -86,6 +86,7 @@ _dagrun() {
                 '--svg[A picture of the run over time, in place of a table]' \
                 '--json[The phases as JSON, for other programs, in place of a table]' \
                 '--summary[Where the time went, in place of a table\: the critical path, what it waited for, and what more at once could gain]' \
+                '--rounds[A row for each round, in place of one for each phase\: the last one, and the one before, by x.dag.log.old]' \
                 '--as-begun[Goes by the files with which the round began, as x.dag.begun keeps them, whatever was changed since]' \
                 '--trust-owner[Root goes by the journal, the rescue files and the lock of another user, and others by those of root]' \
                 '1:DAG:_files -g "*.dag"'

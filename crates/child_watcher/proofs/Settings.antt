@@ -6,7 +6,7 @@ use Rattle.std.proofs.lemmas.Slice.Eq.{strip_prefix_is}
 use Rattle.std.specs.Cmp.Lexicographic.{pointwise, told_text}
 use Rattle.child_watcher.specs.Inherited.{IsValueOf}
 
--- What stands behind the bytes of a name.
+-- What comes after the bytes of a name.
 pub value_behind : (name bytes setting : List ℕ) (found : Option (Bor (List ℕ))) → bytes ≡ name
     → MatchOption found (pointwise nat_eq (take (length bytes) setting) bytes ≡ false) (λ x. (pointwise nat_eq (take (length bytes) setting) bytes ≡ true) × (x.now ≡ drop (length bytes) setting) × (length x.now + length bytes ≡ length setting))
     → IsValueOf name setting found

@@ -19,7 +19,7 @@ inherited round dag node key =
     ∷ (codes "DAGRUN_ATTEMPT=" ++ decimal key.attempt)
     ∷ []
 
--- What a setting says of a variable whose name, with its equals sign, is this one: the bytes behind it; nothing where it is another variable's.
+-- What a setting says of a variable whose name, with its equals sign, is this one: the bytes after it; nothing where it is another variable's.
 abbrev pub IsValueOf : List ℕ → List ℕ → Option (Bor (List ℕ)) → Type 0
 IsValueOf name setting found = MatchOption found ((value : List ℕ) → setting ≢ name ++ value) (λ value. setting ≡ name ++ value.now)
 

@@ -39,7 +39,7 @@ impl RoundIdentity<'_> {
     /// `DAGRUN_ATTEMPT` (from 0 on), in this order. docs/MANUAL.md, "Children", says so to users.
     ///
     /// # Errors
-    /// Want of memory.
+    /// Lack of memory.
     pub fn inherited(&self, alloc: Global, node: &str, key: &Key) -> Result<Texts, AllocError>
         ensures { IfOk result (λ settings. settings ≡ inherited self.now.round.now self.now.dag.now node.now key.now) }
     {

@@ -107,7 +107,7 @@ pub nothing_refused : (app : App) (words : List Text) (m : ArgMatches) → IsDag
     → AsksNothing (subcommand_rows_of m) → IsRefused words
 nothing_refused app words m t has nothing = in_vain app words t (inr (subst AsksNothing (has (simple_app app t)).1 nothing))
 
--- what clap refuses, but for want of memory, has a fault, and it doesn't take it
+-- what clap refuses, but for lack of memory, has a fault, and it doesn't take it
 pub fault_refused : (app : App) (words : List Text) (e : Error) → IsDagrunApp false app → FailsBy {T = ArgMatches} (fault_of app words) (Err e)
     → (takes app words ≡ true → kind_of e ≡ OutOfMemory) → (kind_of e ≡ OutOfMemory → ⊥) → IsRefused words
 fault_refused app words e t fails passes other = record {

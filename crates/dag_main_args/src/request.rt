@@ -68,7 +68,7 @@ pub struct RunOptions {
     pub dorescuefrom: Option<u16>,
     /// What is done with processes that an earlier manager left running.
     pub orphans: OrphanRule,
-    /// Whether a new round runs POST scripts behind PRE scripts that failed, too.
+    /// Whether a new round runs POST scripts after PRE scripts that failed, too.
     pub always_post: bool,
     /// Whether nothing more is launched once a node is in error: what runs is waited for, and the run is halted.
     pub stop_at_first_error: bool,
@@ -99,7 +99,7 @@ pub struct RunOptions {
     pub trust_owner: bool,
 }
 
-// Each function that lets a value go calls this; a derived drop stands in each, part by part.
+// Each function that drops a value calls this; a derived drop would be in each, part by part.
 impl Drop for RunOptions {
     fn drop(self) {
         let RunOptions {
@@ -206,7 +206,7 @@ pub enum Request<'a> {
 
     /// `rehearse DAG [OUTCOMES]`, and no words at all, which is `rehearse -`: the path of the DAG
     /// file, `-` for standard input, and that of the table of outcomes; and whether POST scripts run
-    /// behind PRE scripts that failed, too.
+    /// after PRE scripts that failed, too.
     Rehearse {
         dag: &'a str,
         outcomes: Option<&'a str>,
@@ -699,7 +699,7 @@ fn refusal(alloc: Global, words: &[&str]) -> WordsFault {
 /// `Memory` where it was refused.
 pub fn read_words<'a>(alloc: Global, words: &'a [&'a str]) -> Result<Request<'a>, WordsFault>
     // No words ask for `rehearse -`, with no table, with no limits but that on all children, and with
-    // no POST script behind a PRE script that failed.
+    // no POST script after a PRE script that failed.
     ensures no_words { length words.entry.now ≤ 1 → IsOkAnd result (λ request.
         asked_by request ≡ rehearses (codes "-") None no_limits false) }
     // All children are always limited, and what else may be is a number of 16 bits.

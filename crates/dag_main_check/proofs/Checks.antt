@@ -21,7 +21,7 @@ is_check form files path dag (Ok a) opened acyclic sound text warnings status =
     record { dag = dag; is_dag = opened; acyclic = acyclic; sound = sound; text_is = text; warnings_are = warnings; status_is = status }
 is_check form files path dag (Err fault) opened acyclic sound text warnings status = tt
 
--- want of memory may stop any check
+-- lack of memory may stop any check
 pub check-memory : (files : Files) (path : List ℕ) (answer : Result Answer RunFault) → IfErr answer (λ (fault : RunFault). fault ≡ Memory) → IfErr answer (IsCheckFault files path)
 check-memory files path (Ok a) h = tt
 check-memory files path (Err fault) h = subst (IsCheckFault files path) (sym h) checking_had_no_memory

@@ -4,26 +4,26 @@ use Rattle.dag_main_check.specs.declared.fault.RunFault.{RunFault}
 use Rattle.dag_main_check.specs.declared.warnings.Answer.{Answer}
 use Rattle.dag_main_check.specs.Displayed.{run_fault_text}
 
--- what stands on standard output and on standard error, whether standard output has refused a text, and whether standard error is a terminal
+-- what is on standard output and on standard error, whether standard output has refused a text, and whether standard error is a terminal
 pub record Streams : Type 0 where
   pub printed : List ℕ
   pub warned : List ℕ
   pub refuses : Bool
   pub at_terminal : Bool
 
--- behind what stands on standard output, one more text
+-- after what is on standard output, one more text
 abbrev pub with_printed : Streams → List ℕ → Streams
 with_printed streams text = record streams { printed = streams.printed ++ text }
 
--- behind what stands on standard error, one more text
+-- after what is on standard error, one more text
 abbrev pub with_warned : Streams → List ℕ → Streams
 with_warned streams text = record streams { warned = streams.warned ++ text }
 
--- one more text stands on standard error, and nothing else is changed
+-- one more text is on standard error, and nothing else is changed
 abbrev pub OnlyWarns : Streams → Streams → Type 0
 OnlyWarns before after = (text : List ℕ) × (after ≡ with_warned before text)
 
--- nothing is changed, or one more text stands on standard error, which is a terminal
+-- nothing is changed, or one more text is on standard error, which is a terminal
 abbrev pub OnlyWarnsAtTerminal : Streams → Streams → Type 0
 OnlyWarnsAtTerminal before after = (after ≡ before) ⊎ ((before.at_terminal ≡ true) × OnlyWarns before after)
 
@@ -41,7 +41,7 @@ abbrev pub refusal_line : RunFault → List ℕ
 refusal_line fault = codes "dagrun: " ++ run_fault_text fault ++ codes "\n"
 
 -- An answer is displayed: its warnings on standard error and its text on standard output, with its status; or standard output refuses
--- the text, which is displayed behind its warnings, with status 125.
+-- the text, which is displayed after its warnings, with status 125.
 pub data IsDisplayed (answer : Answer) (before after : Streams) : ℕ → Type 0 where
   whole : after ≡ with_printed (with_warned before (string_bytes answer.warnings)) (string_bytes answer.text) → IsDisplayed answer before after answer.status
   output_refused : IsTrue after.refuses → (line : List ℕ) → after.warned ≡ (before.warned ++ string_bytes answer.warnings) ++ line →

@@ -1,4 +1,4 @@
--- The line that a user reads behind `dagrun: ` where a command is refused: `CODE Name detail`.
+-- The line that a user reads after `dagrun: ` where a command is refused: `CODE Name detail`.
 use Rattle.std.specs.Prelude.{ℕ, List, ◌++◌, Option, Some, None, codes, string_bytes}
 use Rattle.std.specs.Fmt.{decimal}
 use Rattle.dag_reader.specs.Fault.{texts_text}
@@ -20,7 +20,7 @@ line_in (rescue.FinalDone line) = Some line
 line_in (rescue.NotThere number) = None
 line_in rescue.Memory = None
 
--- a fault's name, and `FILE:LINE` behind it where it is one of a line
+-- a fault's name, and `FILE:LINE` after it where it is one of a line
 abbrev pub at_line : List ℕ → List ℕ → Option ℕ → List ℕ
 at_line name path None = name
 at_line name path (Some line) = name ++ codes " " ++ path ++ codes ":" ++ decimal line

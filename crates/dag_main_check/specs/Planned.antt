@@ -39,7 +39,7 @@ pub data IsGraphFault (files : Files) (path : List ℕ) : RunFault → Type 0 wh
   cyclic : (dag : Dag) (names : List (List ℕ)) → dag_at files path ≡ Ok dag → NamesCycle dag names → IsGraphFault files path (Cycle names)
   opening_had_no_memory : IsGraphFault files path Memory
 
--- the plan of files, with no submit file read; the flag says whether POST runs behind a failed PRE
+-- the plan of files, with no submit file read; the flag says whether POST runs after a failed PRE
 pub record IsPlanOf (always_post : Bool) (files : Files) (path : List ℕ) (plan : Plan) : Type 0 where
   pub is_dag : dag_at files path ≡ Ok plan.graph.dag
   pub acyclic : IsAcyclic plan.graph.dag.edges

@@ -25,7 +25,7 @@ use std::alloc::{AllocError, Global};
 ///
 /// # Errors
 /// The first fault that opening the files meets (`InFiles`), a cycle (`Cycle`), the first fault of
-/// the submit files and the texts of jobs, in plan order (`InPlan`), and want of memory.
+/// the submit files and the texts of jobs, in plan order (`InPlan`), and lack of memory.
 /// After a missing file the caller may add it and ask again.
 pub fn check_text(
     alloc: Global,

@@ -21,7 +21,7 @@ fn value_of(alloc: Global, graph: &Graph, path: &str) -> Result<Value, AllocErro
 /// The graph of the DAG file of this path as JSON, in one line.
 ///
 /// # Errors
-/// Want of memory, and nothing else.
+/// Lack of memory, and nothing else.
 pub(crate) fn check_json(alloc: Global, graph: &Graph, path: &str) -> Result<String, AllocError>
     ensures { IfOk result (λ text. string_bytes text ≡ check_json_of path.now graph.now.dag) }
 {

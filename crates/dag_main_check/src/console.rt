@@ -10,10 +10,10 @@ use std::io::{self, ErrorKind};
 ///
 /// What is said of texts is said of a console that is honest in the end: nobody else wrote there, and no warning was lost.
 pub trait Console {
-    /// What stands on both, whether standard output has refused a text, and whether standard error is a terminal.
+    /// What is on both, whether standard output has refused a text, and whether standard error is a terminal.
     ghost shown: { Self → Streams };
 
-    /// The premise under which that stands there: so far it was honest.
+    /// The premise under which that is there: so far it was honest.
     ghost honest: { Self → Type 0 };
 
     /// Writes a text to standard output.

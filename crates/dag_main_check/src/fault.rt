@@ -18,7 +18,7 @@ use std::fmt;
 use thiserror::Error;
 
 /// Why a command is refused. It is displayed as `CODE Name detail`, the line that the user reads
-/// behind `dagrun: `.
+/// after `dagrun: `.
 #[derive(Drop, Error)]
 pub enum RunFault {
     /// The files of the DAG are refused.

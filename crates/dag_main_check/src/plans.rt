@@ -19,7 +19,7 @@ use std::alloc::Global;
 /// The graph of the files of this path.
 ///
 /// # Errors
-/// The first fault that opening the files meets, then a cycle; want of memory.
+/// The first fault that opening the files meets, then a cycle; lack of memory.
 pub fn graph_of(alloc: Global, files: &FileSet, path: &str) -> Result<Graph, RunFault>
     ensures graph { IfOk result (IsGraphOf (bytes_of files.now) path.now) }
     ensures refused { IfErr result (IsGraphFault (bytes_of files.now) path.now) }
@@ -30,7 +30,7 @@ pub fn graph_of(alloc: Global, files: &FileSet, path: &str) -> Result<Graph, Run
 }
 
 /// The plan of the files of this path, with no submit file read. With `always_post` the POST script
-/// of a node runs behind a PRE script that failed, too.
+/// of a node runs after a PRE script that failed, too.
 pub fn plan_of(
     alloc: Global,
     files: &FileSet,
@@ -65,7 +65,7 @@ pub(crate) fn full_plan_of(alloc: Global, files: &FileSet, path: &str) -> Result
 }
 
 /// The plan of a graph, of its submit files and of a rescue file, if there is one. With `always_post`
-/// the POST script of a node runs behind a PRE script that failed, too.
+/// the POST script of a node runs after a PRE script that failed, too.
 pub fn plan_by(
     alloc: Global,
     graph: Graph,

@@ -1,4 +1,4 @@
--- What stands beside a DAG file, and what is answered of it.
+-- What is beside a DAG file, and what is answered of it.
 use Rattle.std.specs.Prelude.{◌≡◌, ◌≢◌, ◌<◌, ◌≤◌, ◌+◌, ◌-◌, ℕ, Bool, true, false, zero, suc, take, nat_lt, List, ◌++◌, length, slice_index, Option, Some, None, Result, Ok, Err, is_some, codes, string_bytes, String, if◌then◌else◌}
 use Rattle.std.specs.Global.{Global}
 use Rattle.std.specs.Path.{rfind_below}
@@ -32,7 +32,7 @@ folder_before path (Some (suc n)) = take (suc n) path
 abbrev pub folder_name_of : List ℕ → List ℕ
 folder_name_of path = folder_before path (rfind_below 47 path (length path))
 
--- How many bytes the name of a file has by its path: those behind the last slash, or all where there is none.
+-- How many bytes the name of a file has by its path: those after the last slash, or all where there is none.
 pub data IsNameLength (path : List ℕ) : ℕ → Type 0 where
   no_slash : ((place : ℕ) → place < length path → slice_index path place ≢ 47) → IsNameLength path (length path)
   behind_slash : (slash : ℕ) → slash < length path → slice_index path slash ≡ 47 →
@@ -98,7 +98,7 @@ pub data IsRoundFault (top : List ℕ) (from : Option ℕ) : RunFault → Type 0
   no_such_number : (number : ℕ) → from ≡ None → ¬ (IsFileNumber number) → IsRoundFault top from (NotThere number)
   folder_not_read : (fault : RunFault) → MayGoBack from → IsRefusalOf (folder_name_of top) fault → IsRoundFault top from fault
 
--- the number behind the highest; 999 is written again
+-- the number after the highest; 999 is written again
 abbrev pub number_behind : ℕ → ℕ
 number_behind highest = if nat_lt highest 999 then highest + 1 else 999
 
@@ -110,7 +110,7 @@ BeginsAnew journals.Unfinished = ⊥
 
 -- Which rescue files a round reads and writes, where one number counts as the highest: a new one reads that of the highest number, or none, which
 -- is 0, where this is asked for, and writes the next; one that goes back reads that of the number to which it is to go back, and writes the next;
--- one that goes on keeps the numbers of its journal's header. A new one runs POST behind a failed PRE where this is asked for.
+-- one that goes on keeps the numbers of its journal's header. A new one runs POST after a failed PRE where this is asked for.
 pub data IsRoundWith (Counts : ℕ → Type 0) (autorescue : Bool) (from : Option ℕ) (always_post : Bool) (round : Round) : Type 0 where
   begins_anew : (highest : ℕ) → from ≡ None → Counts highest → BeginsAnew round.journal → round.used ≡ (if autorescue then highest else 0) →
       round.next ≡ number_behind highest → round.goes_back ≡ false → round.always_post ≡ always_post → IsRoundWith Counts autorescue from always_post round

@@ -17,7 +17,7 @@ use Rattle.dag_main_files.specs.Beside.{journal_name_of, folder_name_of, IsRefus
 abbrev pub AreHeld : Files → FileSet → Type 0
 AreHeld holds set = (path bytes : List ℕ) → bytes_of set path ≡ Some bytes → holds path ≡ Some bytes
 
--- each file of a set stands in another one, too
+-- each file of a set is in another one, too
 abbrev pub KeepsFiles : FileSet → FileSet → Type 0
 KeepsFiles set other = (path bytes : List ℕ) → bytes_of set path ≡ Some bytes → bytes_of other path ≡ Some bytes
 

@@ -36,7 +36,7 @@ pub struct Place<'a> {
     pub top: &'a str,
 }
 
-/// What is returned for the file of this path, which the system refuses: `Memory` for want of memory, or
+/// What is returned for the file of this path, which the system refuses: `Memory` for lack of memory, or
 /// else `FileRefused` with the path.
 pub fn refused(alloc: Global, path: &str, error: &io::Error) -> RunFault
     ensures file { IsFileFault result }
@@ -242,7 +242,7 @@ impl<'a> Place<'a> {
         }
     }
 
-    /// Sees to it that the file of this path, which stands beside the DAG file, was put there by nobody
+    /// Sees to it that the file of this path, which is beside the DAG file, was put there by nobody
     /// else: where others may put files into that folder, and it is there, it is this user's. With
     /// `trust_owner` root trusts the files of others, and others trust those of root.
     ///
@@ -427,7 +427,7 @@ fn open_regular<R: Files<File = File>>(rt: &R, path: &str) -> io::Result<File> {
     File::open(rt, path)
 }
 
-/// The greatest size of a journal in bytes, 513 MiB: dagrun writes at most 2^24 slots of 32 bytes, behind a header.
+/// The greatest size of a journal in bytes, 513 MiB: dagrun writes at most 2^24 slots of 32 bytes, after a header.
 const MOST_OF_JOURNAL: u64 = (1 << 29) + (1 << 20);
 
 /// The greatest size of a log in bytes, 512 MiB.

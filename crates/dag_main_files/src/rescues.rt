@@ -1,4 +1,4 @@
-//! The rescue files of later rounds, which are put away where a round goes back behind them.
+//! The rescue files of later rounds, which are put away where a round goes back to one before them.
 
 ghost use Rattle.std.specs.Prelude.{◌≡◌, ◌↔◌, IsTrue, IfOk, IfErr, Contains};
 ghost use Rattle.dag_main_check.specs.declared.fault.RunFault.TheVariants.{Memory};
@@ -10,7 +10,7 @@ use dag_reader::Text;
 use rescue_file::pick_number;
 use std::alloc::Global;
 
-/// Whether this name stands among these.
+/// Whether this name is among these.
 fn stands_in(names: &[Text], name: &str) -> bool
     ensures { IsTrue result ↔ Contains names.now name.now }
 {
@@ -19,7 +19,7 @@ fn stands_in(names: &[Text], name: &str) -> bool
 
 /// The numbers above this one of the rescue files of a top DAG file that stand among the names of its
 /// folder, the highest first: in that order they are renamed where a round goes back to this one. A
-/// name counts only if it is the `rescue_name` of a number, so one with `.old` behind it does not.
+/// name counts only if it is the `rescue_name` of a number, so one with `.old` after it does not.
 ///
 /// # Errors
 /// `Memory` alone.

@@ -45,11 +45,11 @@ pub struct Round {
     /// Whether it goes back to an earlier round: the rescue file is read that is asked for, and those
     /// of higher numbers are put away first.
     pub goes_back: bool,
-    /// Whether POST scripts run behind PRE scripts that failed, too.
+    /// Whether POST scripts run after PRE scripts that failed, too.
     pub always_post: bool,
 }
 
-/// The number behind the highest; 999 is written again.
+/// The number after the highest; 999 is written again.
 fn number_after(highest: u16) -> u16
     ensures number { IsRescueNumber result }
     ensures behind { result ≡ number_behind highest }
@@ -102,7 +102,7 @@ pub fn journal_disk<R: Files<File = File> + AllocGlobal + Copy + Drop>(
 }
 
 /// The disk of the rescue file of this number, from 1 to 999, which is written beside it, under its name
-/// with `.new` behind it, and named once it is whole. Nothing is opened yet.
+/// with `.new` after it, and named once it is whole. Nothing is opened yet.
 ///
 /// # Errors
 /// `Memory` alone.

@@ -22,7 +22,7 @@ abbrev pub journal_bytes : Option (List ℕ) → List ℕ
 journal_bytes None = []
 journal_bytes (Some bytes) = bytes
 
--- whether POST runs behind a failed PRE in the run of a journal, as its header says
+-- whether POST runs after a failed PRE in the run of a journal, as its header says
 abbrev pub flag_by : Option (List ℕ) → Bool
 flag_by journal = flag_read (replay_of (journal_bytes journal))
 

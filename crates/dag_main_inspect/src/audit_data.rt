@@ -62,7 +62,7 @@ fn refused_value(alloc: Global, cause: AuditNo, path: &str) -> Result<Value, All
 /// The fates as JSON, in one line; the DAG file has this path.
 ///
 /// # Errors
-/// Want of memory, and nothing else.
+/// Lack of memory, and nothing else.
 pub(crate) fn passed_json(
     alloc: Global,
     plan: &Plan,
@@ -79,7 +79,7 @@ pub(crate) fn passed_json(
 /// Why there are no fates as JSON, in one line; the DAG file has this path.
 ///
 /// # Errors
-/// Want of memory, and nothing else.
+/// Lack of memory, and nothing else.
 pub(crate) fn refused_json(alloc: Global, cause: AuditNo, path: &str) -> Result<String, AllocError>
     ensures { IfOk result (λ text. (plan : Plan) → string_bytes text ≡ audit_json_of path.now plan (Err cause)) }
 {

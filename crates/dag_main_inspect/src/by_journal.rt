@@ -29,7 +29,7 @@ pub enum Question {
 ///
 /// # Errors
 /// In this order: those of `last_round`, and those of its plan, a fault in a line of the rescue file with its path; then, but for an audit, that of
-/// the journal or its first record that may not follow (`InManager`), and for a picture as `graph_here`. Want of memory may come
+/// the journal or its first record that may not follow (`InManager`), and for a picture as `graph_here`. Lack of memory may come
 /// before any.
 pub fn answer_here<F: Folder>(
     alloc: Global,

@@ -155,7 +155,7 @@ pub struct LastRound {
 /// # Errors
 /// In this order: a journal that the system refuses to read (`FileRefused`), a number of a rescue file above 999 in
 /// its header (`NotThere`), a rescue file that the system refuses to read. Where the header can't be read, no
-/// rescue file is. Want of memory may come before any.
+/// rescue file is. Lack of memory may come before any.
 pub fn last_round<F: Folder>(alloc: Global, folder: &F, top: &str) -> Result<LastRound, RunFault>
     ensures round { IfOk result (λ round. IsLastRound changing top.now
         (option_map (λ b. b.items) round.journal) (option_map (λ b. b.items) round.rescue)) }

@@ -40,7 +40,7 @@ pub(crate) fn told_value(
 /// A node: how many of its attempts ended, its name, its state and its value.
 ///
 /// # Errors
-/// Want of memory, and nothing else.
+/// Lack of memory, and nothing else.
 pub fn node_of(alloc: Global, core: &Core<'_>, node: u32) -> Result<Value, AllocError>
     requires { node ≤ count_of core.now.plan }
     ensures { IfOk result (λ value. view value ≡ node_data core.now.plan core.now.past node) }
@@ -73,7 +73,7 @@ fn value_in(alloc: Global, core: &Core<'_>, path: &str) -> Result<Value, AllocEr
 /// A value that has no float, in one line.
 ///
 /// # Errors
-/// Want of memory, and nothing else.
+/// Lack of memory, and nothing else.
 pub fn line_of(alloc: Global, value: &Value) -> Result<String, AllocError>
     requires { has_float (view value.now) ≡ false }
     ensures { IfOk result (λ text. string_bytes text ≡ compact_text (view value.now) ++ codes "\n") }
@@ -86,7 +86,7 @@ pub fn line_of(alloc: Global, value: &Value) -> Result<String, AllocError>
 /// The status of a run as JSON, in one line; the DAG file has this path.
 ///
 /// # Errors
-/// Want of memory, and nothing else.
+/// Lack of memory, and nothing else.
 pub(crate) fn status_json(alloc: Global, core: &Core<'_>, path: &str) -> Result<String, AllocError>
     ensures { IfOk result (λ text. string_bytes text ≡ status_json_of path.now core.now.plan core.now.past) }
 {

@@ -39,7 +39,7 @@ pub answered : {A E : Type 0} (P R Q : A → Type 0) (result : Result A E) → (
 answered P R Q (Ok answer) more p r = more answer p r
 answered P R Q (Err fault) more p r = tt
 
--- a rehearsal is stopped for too many records, or for want of memory
+-- a rehearsal is stopped for too many records, or for lack of memory
 stopped-rehearsal : (always_post : Bool) (files : Files) (path : List ℕ) (outcomes : Option (List ℕ)) (limits : Limits) (plan : Plan) (table : List Entry) (fault : RunFault) → IsPlanOf always_post files path plan
     → (entries : List Entry) × HasEntries outcomes entries × SameOutcomes table entries
     → IsTableRunFault limits plan table fault → IsRehearsalFault always_post files path outcomes limits fault

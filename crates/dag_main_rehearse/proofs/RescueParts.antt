@@ -13,7 +13,7 @@ needed plan past text need e = e ∙ (λ j. if sym need j then rescue_text_for p
 pub not-needed : (plan : Plan) (past : List Record) (text : List ℕ) → needs_rescue plan past ≡ false → text ≡ [] → text ≡ rescue_part plan past
 not-needed plan past text need e = e ∙ (λ j. if sym need j then rescue_text_for plan past else [])
 
--- the parts of a report, one behind another
+-- the parts of a report, one after another
 pub whole-report : (plan : Plan) (past : List Record) (status : ℕ) (run rescue text : List ℕ) → run ≡ run_text plan past status
     → rescue ≡ rescue_part plan past → text ≡ run ++ rescue → text ≡ report_of plan past status
 whole-report plan past status run rescue text a b c =

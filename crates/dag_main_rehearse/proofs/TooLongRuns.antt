@@ -182,6 +182,6 @@ pub told-by : (limits : Limits) (plan : Plan) (entries : List Entry) (fault : Dr
 told-by limits plan entries fault told means (inl is) = subst (IsTableRunFault limits plan entries) (sym is) running_had_no_memory
 told-by limits plan entries fault told means (inr (slot, is)) = subst (IsTableRunFault limits plan entries) (sym is) (has_too_many_records (means slot))
 
--- want of memory on the way
+-- lack of memory on the way
 pub no-memory : (limits : Limits) (plan : Plan) (entries : List Entry) (fault told : RunFault) → told ≡ fault → fault ≡ Memory → IsTableRunFault limits plan entries told
 no-memory limits plan entries fault told same is = subst (IsTableRunFault limits plan entries) (sym (same ∙ is)) running_had_no_memory

@@ -13,7 +13,7 @@ use Rattle.job_starter_drive.specs.Scripts.{IsScripted}
 use Rattle.run_round.specs.RunToEnd.{DrivesToEnd}
 use Rattle.fate_audit.specs.Fates.{table_by}
 
--- A whole run of one life under these limits, one step behind another, as with children, of which each ends as the table says,
+-- A whole run of one life under these limits, one step after another, as with children, of which each ends as the table says,
 -- the one that was started first before the others. So it is finished, its endings are the table's, and without abort it shows
 -- the fates.
 pub record IsRehearsed (limits : Limits) (plan : Plan) (entries : List Entry) (past : List Record) : Type 0 where

@@ -23,7 +23,7 @@ use Rattle.dag_main_check.specs.declared.fault.RunFault.{RunFault}
 use Rattle.dag_main_check.specs.declared.fault.RunFault.TheVariants.{InManager, Memory}
 use Rattle.dag_main_rehearse.specs.TooLong.{no_slot, IsTooLong}
 
--- the plan of a DAG, by an order of its nodes, with no submit file read; the flag says whether POST runs behind a failed PRE
+-- the plan of a DAG, by an order of its nodes, with no submit file read; the flag says whether POST runs after a failed PRE
 abbrev pub bare_plan_by : Bool → Dag → List ℕ → Plan
 bare_plan_by always_post dag order = bare_plan always_post (record { dag = dag; order = order })
 

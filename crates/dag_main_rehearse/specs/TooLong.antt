@@ -27,7 +27,7 @@ abbrev pub no_slot : ManagerFault
 no_slot = Journal SlotsFull
 
 -- Where a rehearsal is stopped for want of slots, and the records that its manager refused there. The run of the plan under these limits began
--- with Life alone, and its children end as the table says. One step behind another, it came to these records: on the way, where a round is to
+-- with Life alone, and its children end as the table says. One step after another, it came to these records: on the way, where a round is to
 -- be launched or ends are owed; or where what is to be done next is to finish, by the record of its end alone.
 pub data IsFullAt (limits : Limits) (plan : Plan) (entries : List Entry) (past : List Record) : List Record → Type 0 where
   full_on_the_way : {refused : List Record} (calls : List Call) →
@@ -36,7 +36,7 @@ pub data IsFullAt (limits : Limits) (plan : Plan) (entries : List Entry) (past :
   full_at_the_end : (calls : List Call) → IsAtEnd limits plan (IsScripted plan entries []) (Life ∷ []) [] past calls →
       IsFullAt limits plan entries past (Finish (exit_status plan past) ∷ [])
 
--- These records are Life and groups of others, each written behind one gate, after which fewer slots are left than further ones need that are
+-- These records are Life and groups of others, each written after one gate, after which fewer slots are left than further ones need that are
 -- written together.
 pub record HasNoSlotsFor (past refused : List Record) : Type 0 where
   pub groups : List (List Record)

@@ -28,13 +28,13 @@ use throttles::Limits;
 /// `outcomes` is the text of the table; without it each phase ends with Exit 0. The report has a
 /// line for each node in plan order, `name STATE attempts=n value=v`, then `result N`, N the exit
 /// status, and the text of the rescue file where the run was aborted, a node is not done, or FINAL
-/// failed. No submit file is read. With `always_post` the POST script of a node runs behind a PRE
+/// failed. No submit file is read. With `always_post` the POST script of a node runs after a PRE
 /// script that failed, too.
 ///
 /// # Errors
 /// The first fault that opening the files meets (`InFiles`), a cycle (`Cycle`), the first bad line
 /// of the table (`InTable`), in this order; then more records than the journal of a run has slots (`InManager`
-/// of `SlotsFull`); and want of memory. After a missing file the caller may add it and ask again.
+/// of `SlotsFull`); and lack of memory. After a missing file the caller may add it and ask again.
 pub fn rehearse_text(
     alloc: Global,
     files: &FileSet,
@@ -48,7 +48,7 @@ pub fn rehearse_text(
         (option_map (λ b. b.now) outcomes.entry) limits
         (string_bytes answer.text) (string_bytes answer.warnings) answer.status) }
 
-    // It is refused only where an input is, where this run needs more slots than there are, or for want of memory.
+    // It is refused only where an input is, where this run needs more slots than there are, or for lack of memory.
     ensures refused { IfErr result (IsRehearsalFault always_post (bytes_of files.now) path.now
         (option_map (λ b. b.now) outcomes.entry) limits) }
 {
@@ -113,7 +113,7 @@ fn rescue_part(alloc: Global, core: &Core<'_>) -> Result<String, RunFault>
     }
 }
 
-/// What a run prints, and the text of the rescue file behind it, where one is needed.
+/// What a run prints, and the text of the rescue file after it, where one is needed.
 fn with_rescue(alloc: Global, text: &str, core: &Core<'_>) -> Result<String, RunFault>
     ensures ok { IfOk result (λ whole.
         string_bytes whole ≡ text.now ++ rescue_part core.now.plan core.now.past) }

@@ -34,7 +34,7 @@ pub struct Rehearsal<'a> {
     pub(crate) status: Verdict,
 }
 
-// Each function that lets a value go calls this; a derived drop stands in each, part by part.
+// Each function that drops a value calls this; a derived drop would be in each, part by part.
 impl Drop for Rehearsal<'_> {
     fn drop(self) {
         let Rehearsal {

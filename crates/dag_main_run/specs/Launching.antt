@@ -6,11 +6,11 @@ use Rattle.job_starter_local.specs.declared.launching.Launcher.{Launcher}
 use Rattle.dag_main_check.specs.declared.fault.RunFault.{RunFault}
 use Rattle.dag_main_check.specs.declared.fault.RunFault.TheVariants.{FileRefused, Memory}
 
--- FINAL, whose number is behind those of the other nodes: its job is started by itself, unless the options ask for the launcher.
+-- FINAL, whose number is after those of the other nodes: its job is started by itself, unless the options ask for the launcher.
 abbrev pub spared_by : RunOptions → ℕ → Option ℕ
 spared_by options final = if options.launcher_final then None else Some final
 
--- The launcher of the options: a program where they have one, their words behind its name, the node that it spares, and how many seconds it has to
+-- The launcher of the options: a program where they have one, their words after its name, the node that it spares, and how many seconds it has to
 -- end, which are ten where the options don't say it; and what scripts print is kept where they ask for it.
 pub record IsLauncherBy (options : RunOptions) (final : ℕ) (launcher : Launcher) : Type 0 where
   pub program : is_some launcher.program ≡ is_some (slice_get options.launcher 0)

@@ -49,7 +49,7 @@ abbrev pub journal_found : Files → List ℕ → Round → List ℕ
 journal_found holds top round = bytes_found round.journal (holds (journal_name_of top))
 
 -- What a site knows of its own: which disk is that of the journal of a DAG file, and which that of its rescue file of a number; which calls its
--- children answered, the newest first, with so many that were refused before the first and behind the last; and that it isn't told how children end.
+-- children answered, the newest first, with so many that were refused before the first and after the last; and that it isn't told how children end.
 pub record Own (D R : Type 0) : Type 1 where
   pub is_journal : List ℕ → D → Type 0
   pub is_rescue : List ℕ → ℕ → R → Type 0

@@ -82,7 +82,7 @@ impl<'a, R: Files + AllocGlobal + Drop> HaltWatcher<'a, R> {
     /// For a round of a plan whose journal is readied, as the options ask for it.
     ///
     /// # Errors
-    /// Want of memory.
+    /// Lack of memory.
     pub(crate) fn new(
         rt: R,
         place: &Place<'a>,

@@ -252,7 +252,7 @@ pub(crate) fn settled<
 }
 
 impl Kept {
-    /// The identifiers of a round that begins: a new one, and behind it those of which processes were left.
+    /// The identifiers of a round that begins: a new one, and after it those of which processes were left.
     fn renewed<R: Files + Clock + AllocGlobal>(self, rt: &R) -> Result<Kept, AllocError> {
         let Kept {
             rounds,

@@ -158,14 +158,6 @@ fn led_by<H: Site, W: ChildWatcher + Drop>(
     }
 }
 
-/// The text, where there is one.
-fn text_in(text: &Option<String>) -> Option<&str> {
-    match text {
-        Some(text) => Some(text.as_str()),
-        None => None,
-    }
-}
-
 /// Logs that a round is stopped by this fault, and why. Where the log can't be written, as on a full disk, the reason is shown where it is
 /// shown how far the run is.
 fn log_stop<R: Processes + Files<File = File> + Clock + Screen + AllocGlobal + Copy + Drop>(
@@ -175,10 +167,10 @@ fn log_stop<R: Processes + Files<File = File> + Clock + Screen + AllocGlobal + C
     reason: &Option<String>,
 ) {
     let is_logged = match format!(in rt.alloc(); "{fault}") {
-        Ok(line) => watcher.log.stops(line.as_str(), text_in(reason)),
+        Ok(line) => watcher.log.stops(line.as_str(), reason.as_deref()),
         Err(_) => false,
     };
-    if let (false, Some(reason)) = (is_logged, text_in(reason)) {
+    if let (false, Some(reason)) = (is_logged, reason.as_deref()) {
         watcher.progress.stops(reason);
     }
 }
@@ -551,13 +543,13 @@ fn run_files<
 /// journal and the rescue files. What it writes beside these, it writes at the place, which is in that folder: relative paths are
 /// taken from its path, which is absolute.
 ///
-/// The journal stands beside the DAG file, under its name and `.journal`, and so do the rescue
+/// The journal is beside the DAG file, under its name and `.journal`, and so are the rescue
 /// files, of which that with the highest number is read unless the options forbid it, and the next
-/// number is written. An unfinished run goes on, with the numbers of its header; behind a finished
+/// number is written. An unfinished run goes on, with the numbers of its header; after a finished
 /// one a new round begins, and its journal is put away as `.journal.old`. Where the options ask for the
-/// rescue file of a number, a new round goes back to that one: it is read and the number behind it is
-/// written, and those of higher numbers are put away first, the highest first, with `.old` behind
-/// their names. A new round runs POST scripts behind failed PRE scripts where the options say so; one
+/// rescue file of a number, a new round goes back to that one: it is read and the number after it is
+/// written, and those of higher numbers are put away first, the highest first, with `.old` after
+/// their names. A new round runs POST scripts after failed PRE scripts where the options say so; one
 /// that goes on does as its journal's header says. The answer is the status text and `result N`, with status N.
 ///
 /// # Errors
@@ -569,14 +561,14 @@ fn run_files<
 /// refuses to read or that may be another user's (`FileRefused`), the first fault of the submit files and the texts of jobs
 /// (`InPlan`) and then of the rescue file (`InRescue`), a launcher whose program isn't found (`FileRefused`
 /// with its name), another manager that runs the DAG
-/// (`FileRefused` with the file that it has locked; behind a journal that can't be read too), behind a name
+/// (`FileRefused` with the file that it has locked; after a journal that can't be read too), after a name
 /// beside the DAG file that would be too long (`FileRefused` with it). Then a process to which the system
 /// doesn't tell how children end (`WaitFault`), a rescue file or a journal that can't be renamed
 /// (`FileRefused`), and processes of an earlier manager that can't be ended or asked for (`FileRefused` with the file
 /// that names them, with that of the round's identifier, or with `/proc`), but where the journal will be refused;
 /// the same options go on from there. Then those of the manager
 /// (`InManager`) and of the children (`StartMemory`, `WaitFault`); what was recorded stays. Want of
-/// memory may stand before any.
+/// memory may come before any.
 pub fn run_dag<
     R: Processes + Files<File = File> + Clock + Screen + AllocGlobal + Copy + Drop,
     H: Site,
@@ -590,7 +582,7 @@ pub fn run_dag<
     ensures held { H.honest site.now → IfOk result (λ answer. IsRunFrom (H.holds site.now) (H.has site.now)
         (rounds_at H.Journal.Disk H.Rescue.Disk (H.own site.now) (H.honest site.now) (H.holds site.now))
         place.now.top.now options.now (string_bytes answer.text) (string_bytes answer.warnings) answer.status) }
-    // It is refused for the first cause of the stated order, or for want of memory.
+    // It is refused for the first cause of the stated order, or for lack of memory.
     ensures refused { ¬ (H.streams site.now) → IfErr result (IsRunFault
         (rounds_at H.Journal.Disk H.Rescue.Disk (H.own site.now) (H.honest site.now) (H.holds site.now))
         place.now.top.now options.now) }

@@ -214,7 +214,7 @@ fn bytes_at(alloc: Global, file: &File, count: u64, place: u64) -> io::Result<Ve
 /// Whether the file of this path is missing, empty, or a status of this extent: no other file is written over.
 ///
 /// # Errors
-/// What the system refuses, a path that names no regular file, and want of memory.
+/// What the system refuses, a path that names no regular file, and lack of memory.
 fn may_be_replaced<R: Files<File = File> + AllocGlobal>(
     rt: &R,
     path: &str,
@@ -264,7 +264,7 @@ fn require_free<R: Files<File = File> + AllocGlobal>(
     Err(io::Error::new(ErrorKind::AlreadyExists, "it is no status"))
 }
 
-/// Makes the draft, empty. What stands in its place is a regular file, or nothing.
+/// Makes the draft, empty. What is in its place is a regular file, or nothing.
 fn made<R: Files<File = File>>(rt: &R, paths: &Paths) -> io::Result<File> {
     require_regular(rt, paths.file.as_str())?;
     require_regular(rt, paths.draft.as_str())?;

@@ -34,7 +34,7 @@ pub plain_check : (Checked : Said) (hinted : Bool) (r : Result Answer RunFault) 
 plain_check Checked hinted (Ok answer) is = without_hints _ _ is
 plain_check Checked hinted (Err fault) is = tt
 
--- an answer with hints behind its warnings
+-- an answer with hints after its warnings
 behind : (Checked : Said) (text warnings hints all : List ℕ) (status : ℕ) → Checked text warnings status → (all ≡ warnings ++ hints) ⊎ (all ≡ warnings) → IsCheckWith Checked true text all status
 behind Checked text warnings hints all status is (inl more) = subst (λ (w : List ℕ). IsCheckWith Checked true text w status) (sym more) (with_hints warnings hints status refl is)
 behind Checked text warnings hints all status is (inr same) = subst (λ (w : List ℕ). IsCheckWith Checked true text w status) (sym same) (without_hints warnings status is)

@@ -29,7 +29,7 @@ asks-for words request none said limited = record {
   limited = limited;
 }
 
--- clap's text is no want of memory
+-- clap's text is no lack of memory
 pub no-request : (words : List (List ℕ)) (text : String Global) (fault : WordsFault) → fault ≡ Refused text → (fault ≡ Memory) ⊎ IsRefused words → IsRefused words
 no-request words text fault is (inl same) = absurd cc
 no-request words text fault is (inr refused) = refused

@@ -173,7 +173,7 @@ input-reply Honest IsLost world rounds known holds has asked isnt reply same som
     (subst (λ (f : Files). ComesTo (command_contract (held_in f world.has) known asked) reply) (same honest)
     (unbeside-from holds has world.has rounds known asked isnt reply (held honest))))
 
--- no round is asked for where nothing is asked of what stands beside a DAG file
+-- no round is asked for where nothing is asked of what is beside a DAG file
 pub unasked : {P : Type 0} (asked : Asked) → is_beside asked ≡ false → is_run asked ≡ true → P
 unasked (checks path all json hinted) isnt run = absurd (false≢true run)
 unasked (runs path options) isnt run = absurd (false≢true (sym isnt))

@@ -112,7 +112,7 @@ abbrev pub checks_from : (all : Bool) → CheckForm → Files → (path : List �
 checks_from false form holds path = IsCheckOf form holds path
 checks_from true form holds path = IsCheckOfAllHeld form holds path
 
--- What `check` answers; where hints are asked for, with these behind its warnings.
+-- What `check` answers; where hints are asked for, with these after its warnings.
 pub data IsCheckWith (Checked : Said) (hinted : Bool) (text : List ℕ) : (warnings : List ℕ) → (status : ℕ) → Type 0 where
   without_hints : (warnings : List ℕ) (status : ℕ) → Checked text warnings status → IsCheckWith Checked hinted text warnings status
   with_hints : (warnings hints : List ℕ) (status : ℕ) → hinted ≡ true → Checked text warnings status → IsCheckWith Checked hinted text (warnings ++ hints) status
@@ -129,7 +129,7 @@ abbrev pub is_run : Asked → Bool
 is_run (runs path options) = true
 is_run _ = false
 
--- it is asked for what stands beside a DAG file: `-` is a path like others
+-- it is asked for what is beside a DAG file: `-` is a path like others
 abbrev pub is_beside : Asked → Bool
 is_beside (checks path all json hinted) = false
 is_beside (rehearses path outcomes limits always_post) = false
@@ -364,7 +364,7 @@ pub data IsFolderFault (IsLost : Type 0) : RunFault → Type 0 where
   folder_had_no_memory : IsFolderFault IsLost Memory
 
 -- What comes of a request: what the command comes to that it is for, whatever is known, and, where the host is honest, by the files of this world; or it is
--- for what stands beside a DAG file, and it isn't known in which folder the program was called.
+-- for what is beside a DAG file, and it isn't known in which folder the program was called.
 pub data IsReply (Honest IsLost : Type 0) (world : World) (rounds : Rounds) (asked : Asked) : Result Answer RunFault → Type 0 where
   of_command : (reply : Result Answer RunFault) → ComesTo (command_contract changing_files rounds asked) reply →
       (Honest → ComesTo (command_contract (held_in (files_for (is_beside asked) world) world.has) rounds asked) reply) → IsReply Honest IsLost world rounds asked reply
@@ -386,19 +386,19 @@ pub data IsExit (Replies : Asked → Result Answer RunFault → Type 0) (words :
   of_no_memory : IsExit Replies words 125
 
 -- What is displayed before the reply to a request: the hints of a check that is refused, where they are asked for; else nothing, since an answer has
--- its hints behind its warnings.
+-- its hints after its warnings.
 abbrev pub AreHints : Asked → Result Answer RunFault → Streams → Streams → Type 0
 AreHints (checks path all json true) (Err fault) before after = OnlyWarns before after
 AreHints _ _ before after = after ≡ before
 
--- a reply is displayed, and at a terminal more behind it on standard error
+-- a reply is displayed, and at a terminal more after it on standard error
 pub record IsDisplayedThen (before after : Streams) (reply : Result Answer RunFault) (status : ℕ) : Type 0 where
   pub shown : Streams
   pub displayed : IsDisplayedAs before shown reply status
   pub more : OnlyWarnsAtTerminal shown after
 
--- What the program displays for a command line of these words, and its exit status: the reply to what they ask for, behind the hints of a check that is
--- refused where these are asked for, and at a terminal what may help behind it; or, where they ask for nothing, one text on standard error, which says why; or that there is no memory to
+-- What the program displays for a command line of these words, and its exit status: the reply to what they ask for, after the hints of a check that is
+-- refused where these are asked for, and at a terminal what may help after it; or, where they ask for nothing, one text on standard error, which says why; or that there is no memory to
 -- read them.
 pub data IsCall (Replies : Asked → Result Answer RunFault → Type 0) (words : List (List ℕ)) (before after : Streams) : ℕ → Type 0 where
   replied : (request : Request) (reply : Result Answer RunFault) (hinted : Streams) (status : ℕ) → AskFor words request → Replies (asked_by request) reply →

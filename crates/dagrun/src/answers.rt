@@ -40,7 +40,7 @@ use throttles::Limits;
 pub(crate) const REFUSED: u8 = 125;
 
 /// What is answered to a request by the files of a folder. What a run writes, and what the system has besides, as a
-/// table of outcomes or the output of a job, stands where the system says, seen from the path of that folder. The hints
+/// table of outcomes or the output of a job, is where the system says, seen from the path of that folder. The hints
 /// of a check that is refused are displayed at once.
 ///
 /// # Errors

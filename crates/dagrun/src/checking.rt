@@ -112,7 +112,7 @@ fn check_with_hints<R: Files<File = File> + Screen + AllocGlobal, C: Console, F:
     }
 }
 
-/// An answer with hints behind its warnings, as far as there is memory for them.
+/// An answer with hints after its warnings, as far as there is memory for them.
 fn with_hints(mut answer: Answer, hints: &str) -> Answer
     ensures text { string_bytes result.text ≡ string_bytes answer.text }
     ensures status { result.status ≡ answer.status }

@@ -20,10 +20,10 @@ use std::time::{Clock, Duration};
 /// Runs the command of these words, of which the first is the program's name, and answers the
 /// exit status.
 ///
-/// What the command prints stands on standard output, its warnings on standard error; a refused
+/// What the command prints is on standard output, its warnings on standard error; a refused
 /// command line is reported by clap's text on standard error, a refused input by one line
 /// `dagrun: CODE Name detail`, both with status 125 and nothing on standard output. At a terminal, what may help
-/// stands behind it on standard error, and so does what is displayed while a run goes on, which isn't written to this console.
+/// comes after it on standard error, and so does what is displayed while a run goes on, which isn't written to this console.
 pub fn run<
     R: Files<File = File> + Processes + Clock + Screen + Input + AllocGlobal + Copy + Drop,
     H: Host,
@@ -122,7 +122,7 @@ fn dag_in<'a>(request: &Request<'a>) -> Option<&'a str> {
     }
 }
 
-/// What is displayed behind what is shown of a round.
+/// What is displayed after what is shown of a round.
 fn postscript_of(round: &ShownRound<'_>, view: &View<'_>) -> Postscript {
     let trusts_owner = round.trust_owner;
     match view {
@@ -135,7 +135,7 @@ fn postscript_of(round: &ShownRound<'_>, view: &View<'_>) -> Postscript {
     }
 }
 
-/// What is displayed behind the answer to a request.
+/// What is displayed after the answer to a request.
 fn postscript_to<R: Clock>(rt: &R, request: &Request<'_>) -> Postscript {
     match request {
         Request::Run { options, .. } if options.progress != ProgressRule::Never && !options.json =>

@@ -13,7 +13,7 @@ use std::process::Processes;
 use std::rt::{Env, Files};
 use std::time::Clock;
 
-/// What the program is called on: the files of the folder in which it was called, what stands on standard input, the disks
+/// What the program is called on: the files of the folder in which it was called, what is on standard input, the disks
 /// of journals and of rescue files in that folder, and children.
 ///
 /// What is said of bytes, of crashes and of children is said of an honest host.

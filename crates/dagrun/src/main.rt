@@ -81,7 +81,7 @@ impl Standing {
     }
 }
 
-/// Whether an option is among some words, with its value behind it or in the next word.
+/// Whether an option is among some words, with its value after it or in the next word.
 fn is_given(words: &[String], option: &str) -> bool {
     words.iter().any(|word| match word.as_str().split_once('=') {
         Some((name, _)) => name == option,

@@ -35,7 +35,7 @@ fn number_behind(word: &str) -> Option<&str> {
     }
 }
 
-/// The words with `--maxjobs=N` in place of `-j N` and `-jN`; what stands behind `--` stays.
+/// The words with `--maxjobs=N` in place of `-j N` and `-jN`; what comes after `--` stays.
 fn with_jobs<R: Files + AllocGlobal>(
     rt: &R,
     words: Vec<String>,
@@ -82,7 +82,7 @@ fn with_version(alloc: Global, words: Vec<String>) -> Result<Vec<String>, AllocE
 /// `--maxjobs N`, and `-j cpus` as many as there are processors for this process; `--version` and `-V` are `version`.
 ///
 /// # Errors
-/// Want of memory.
+/// Lack of memory.
 pub(crate) fn spelled_out<R: Files + AllocGlobal>(
     rt: &R,
     words: Vec<String>,

@@ -1,4 +1,4 @@
-//! What is displayed at a terminal behind the line of a refusal, and behind a status.
+//! What is displayed at a terminal after the line of a refusal, and after a status.
 
 ghost use Rattle.dag_main_check.specs.Consoles.{OnlyWarnsAtTerminal};
 
@@ -49,14 +49,14 @@ const OF_A_NODE: [&str; 7] = ["V1", "V2", "V3", "V4", "V5", "P4", "P5"];
 /// How many changed files are named.
 const MOST_CHANGED: usize = 5;
 
-/// How many nodes that are not done are named behind a run.
+/// How many nodes that are not done are named after a run.
 const MOST_NAMED: usize = 20;
 
-/// What is displayed at a terminal behind an answer.
+/// What is displayed at a terminal after an answer.
 #[derive(Clone, Copy)]
 pub(crate) enum Postscript {
     Nothing,
-    /// Which nodes are not done behind a run, how many are, and how long it took since this moment.
+    /// Which nodes are not done after a run, how many are, and how long it took since this moment.
     Run { began: Duration },
     /// What is odd in the files of a check.
     Hints,
@@ -66,12 +66,12 @@ pub(crate) enum Postscript {
     Worker { trusts_owner: bool },
     /// Which files are changed since the last round began.
     Changes,
-    /// The same behind a drawing that is by the files with which it began, and how they are drawn as they are.
+    /// The same after a drawing that is by the files with which it began, and how they are drawn as they are.
     ChangesDrawn,
 }
 
 impl Postscript {
-    /// Whether it is displayed where the command ends with this status: behind a run that was led to its end with any, else
+    /// Whether it is displayed where the command ends with this status: after a run that was led to its end with any, else
     /// with 0 alone.
     pub(crate) fn is_due(self, status: u8) -> bool {
         match self {
@@ -87,7 +87,7 @@ fn source_of<R: Files + AllocGlobal>(rt: &R, refusal: &Refusal<'_>) -> Option<Ve
     read_input(rt, place.path, false).ok()
 }
 
-/// What stands in the place of a regular file, in words; none where it is one.
+/// What is in the place of a regular file, in words; none where it is one.
 fn kind_of(found: &Metadata) -> Option<&'static str> {
     let kind = found.file_type();
     if kind.is_symlink() {
@@ -111,7 +111,7 @@ fn other_owner<R: Files>(rt: &R, found: &Metadata) -> Option<u32> {
     }
 }
 
-/// What is wrong with what stands at a path, which is not opened: it is no regular file, or another user's.
+/// What is wrong with what is at a path, which is not opened: it is no regular file, or another user's.
 fn seen_at<R: Files + AllocGlobal>(rt: &R, path: &str) -> Result<Option<String>, AllocError> {
     let alloc = rt.alloc();
     let Ok(found) = fs::symlink_metadata(rt, path) else {
@@ -625,7 +625,7 @@ fn reason_of<R: Files<File = File> + Env + Input + AllocGlobal + Copy + Drop>(
     }
 }
 
-/// What is displayed behind the line of a refusal of a request for this DAG file.
+/// What is displayed after the line of a refusal of a request for this DAG file.
 fn hint_of<R: Files<File = File> + Env + Input + AllocGlobal + Copy + Drop>(
     rt: &R,
     dag: Option<&str>,
@@ -641,7 +641,7 @@ fn hint_of<R: Files<File = File> + Env + Input + AllocGlobal + Copy + Drop>(
     hint_text(rt.alloc(), &refusal, &evidence)
 }
 
-/// Displays what may help behind the line of a refusal, where standard error is a terminal.
+/// Displays what may help after the line of a refusal, where standard error is a terminal.
 pub(crate) fn display_hint<
     R: Files<File = File> + Env + Input + AllocGlobal + Copy + Drop,
     C: Console,
@@ -832,7 +832,7 @@ fn span_text(alloc: Global, span: Duration) -> Result<String, AllocError> {
     format!(in alloc; "{}:{zero}{}:{tens}{rest}", minutes / 60, minutes % 60)
 }
 
-/// What is displayed behind the report of a run of this DAG file, which took so long.
+/// What is displayed after the report of a run of this DAG file, which took so long.
 fn ended_text(
     alloc: Global,
     dag: &str,
@@ -880,7 +880,7 @@ fn odd_text<R: Files<File = File> + Env + Input + AllocGlobal + Copy + Drop>(
     }
 }
 
-/// What is displayed at a terminal behind the answer to a request for this DAG file, of which this was printed.
+/// What is displayed at a terminal after the answer to a request for this DAG file, of which this was printed.
 fn postscript_of<R: Files<File = File> + Clock + Env + Input + AllocGlobal + Copy + Drop>(
     rt: &R,
     dag: &str,

@@ -156,7 +156,7 @@ fn answer_of<R: Files<File = File> + AllocGlobal>(
 /// As `answer_here` for the status: in this order a journal that the system refuses to read, a number of a
 /// rescue file above 999 in its header, a rescue file that the system refuses to read; then a log that may be another
 /// user's (`FileRefused`, as `Place::trusts` tells it); then those of `answer_here` for the status, a fault in a line of the rescue file
-/// with its path. Want of memory may stand before any.
+/// with its path. Lack of memory may come before any.
 pub fn why_here<R: Files<File = File> + AllocGlobal, F: Folder>(
     rt: &R,
     folder: &F,

@@ -223,7 +223,7 @@ fn why_value(
 /// What is found of nodes as JSON, in one line; the DAG file has this path.
 ///
 /// # Errors
-/// Want of memory, and nothing else.
+/// Lack of memory, and nothing else.
 pub(crate) fn nodes_json(
     alloc: Global,
     core: &Core<'_>,

@@ -62,7 +62,7 @@ first-unknown plan graph path names i d numbers line same less so_far none repor
   reported = reported;
 }
 
--- the parts of a line, one behind another
+-- the parts of a line, one after another
 pub parts-of : (b0 b1 b2 b3 b4 b5 a w1 m w2 n : List ℕ) → b0 ≡ [] → b1 ≡ b0 ++ a → b2 ≡ b1 ++ w1 → b3 ≡ b2 ++ m → b4 ≡ b3 ++ w2 → b5 ≡ b4 ++ n
     → b5 ≡ a ++ (w1 ++ (m ++ (w2 ++ n)))
 parts-of b0 b1 b2 b3 b4 b5 a w1 m w2 n e0 e1 e2 e3 e4 e5 =

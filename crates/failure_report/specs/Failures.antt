@@ -26,7 +26,7 @@ noted_end before (End key outcome) node =
     if key.node == node then Some (record { attempt = key.attempt; phase = key.phase; outcome = outcome }) else before
 noted_end before _ node = before
 
--- of each node, FINAL's place behind the others, its last phase that ended
+-- of each node, FINAL's place after the others, its last phase that ended
 pub record AreLastEnds (plan : Plan) (past : List Record) (ends : List (Option Ended)) : Type 0 where
   pub many : length ends ≡ suc (count_of plan)
   pub each : (node : ℕ) → node < suc (count_of plan) → slice_index_or ends node None ≡ last_end past node

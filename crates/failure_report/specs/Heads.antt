@@ -12,7 +12,7 @@ phase_words Pre = codes "its PRE script"
 phase_words Job = codes "its job"
 phase_words Post = codes "its POST script"
 
--- the name of a signal behind its number, where it has one
+-- the name of a signal after its number, where it has one
 abbrev pub name_words : Option (List ℕ) → List ℕ
 name_words None = codes ""
 name_words (Some name) = codes " (" ++ (name ++ codes ")")

@@ -36,7 +36,7 @@ pub data AreReported (plan : Plan) (past : List Record) : (nodes : List ℕ) →
   one_more_reported : (nodes : List ℕ) (reported : List Reported) (node : ℕ) (one : Reported) → AreReported plan past nodes reported → IsReportedOfNode plan past node one →
       AreReported plan past (nodes ++ node ∷ []) (reported ++ one ∷ [])
 
--- the text has what is reported of the nodes of these names, one behind another
+-- the text has what is reported of the nodes of these names, one after another
 pub record HasNamed (plan : Plan) (past : List Record) (names : List (List ℕ)) (text : List ℕ) : Type 0 where
   pub numbers : List ℕ
   pub are_numbers : AreNumbers plan names numbers

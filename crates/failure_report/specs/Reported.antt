@@ -22,14 +22,14 @@ abbrev pub IsBlock : Plan → Reported → List ℕ → Type 0
 IsBlock plan (Failed failure) block = IsFailureBlock plan failure block
 IsBlock plan (Standing node) block = Unit {0}
 
--- what is reported of a node stands behind a text, with something between them
+-- what is reported of a node comes after a text, with something between them
 pub record HasBlock (plan : Plan) (one : Reported) (before now : List ℕ) : Type 0 where
   pub gap : List ℕ
   pub block : List ℕ
   pub reported : IsBlock plan one block
   pub added : now ≡ (before ++ gap) ++ block
 
--- what is reported of some nodes stands in a text, one behind another, with something before and between them
+-- what is reported of some nodes is in a text, one after another, with something before and between them
 pub data HasBlocks (plan : Plan) : List Reported → List ℕ → Type 0 where
   front : (text : List ℕ) → HasBlocks plan [] text
   behind : {reported : List Reported} {one : Reported} {before now : List ℕ} → HasBlocks plan reported before → HasBlock plan one before now → HasBlocks plan (reported ++ one ∷ []) now

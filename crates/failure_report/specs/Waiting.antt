@@ -15,6 +15,6 @@ held_by plan past node = filter (λ child. not (is_done plan past child)) (child
 abbrev pub IsWaitingCount : Plan → List Record → (blocker : ℕ) → (count : ℕ) → Type 0
 IsWaitingCount plan past blocker count = IsReachCount (held_by plan past) blocker count
 
--- of each node, FINAL's place behind the others, its children that are not done
+-- of each node, FINAL's place after the others, its children that are not done
 abbrev pub AreChildrenLeft : Plan → List Record → List (List ℕ) → Type 0
 AreChildrenLeft plan past lists = lists ≡ map (held_by plan past) (range_with_len 0 (suc (count_of plan)))

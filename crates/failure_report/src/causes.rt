@@ -23,7 +23,7 @@ fn push_last_line(text: &mut String, quote: &Quote) -> Result<(), AllocError> {
 /// error output of this phase. Where nothing is quoted, the cause has no such line.
 ///
 /// # Errors
-/// Want of memory.
+/// Lack of memory.
 pub(crate) fn cause_of<R: Files<File = File> + AllocGlobal>(
     rt: &R,
     run: &Run<'_, '_, '_>,

@@ -1,4 +1,4 @@
-//! What is reported of a phase behind the line of its node: its command, its files, how long it took, and the
+//! What is reported of a phase after the line of its node: its command, its files, how long it took, and the
 //! last lines of its error output.
 
 use crate::quotes::push_all_shown;
@@ -85,7 +85,7 @@ fn parts_of(alloc: Global, program: &Text, words: &[Text]) -> Result<Vec<String>
 /// How a child is started by a command, seen from this folder.
 ///
 /// # Errors
-/// Want of memory.
+/// Lack of memory.
 pub(crate) fn seen_command(
     alloc: Global,
     folder: &str,
@@ -176,7 +176,7 @@ fn push_quote(text: &mut String, quote: &Quote) -> Result<(), AllocError> {
 /// Adds what is reported of a phase.
 ///
 /// # Errors
-/// Want of memory.
+/// Lack of memory.
 pub(crate) fn push_details(text: &mut String, details: &Details) -> Result<(), AllocError> {
     if let Some(command) = &details.command {
         let launcher = details.launcher.as_ref().map(|words| words.as_str());

@@ -15,7 +15,7 @@ pub(crate) struct EarlierEnd<'a> {
     pub(crate) outcome: Outcome,
     /// How many seconds it ran.
     pub(crate) seconds: Option<&'a str>,
-    /// The end of its error output; each is a value as it stands in the log.
+    /// The end of its error output; each is a value as it is in the log.
     pub(crate) errors: Option<&'a str>,
 }
 
@@ -56,7 +56,7 @@ fn push_end(alloc: Global, text: &mut String, end: &EarlierEnd<'_>) -> Result<()
 /// Adds the phases of a node that did not end well in earlier attempts: the five newest, and how many there were before them.
 ///
 /// # Errors
-/// Want of memory.
+/// Lack of memory.
 pub(crate) fn push_earlier(
     alloc: Global,
     text: &mut String,

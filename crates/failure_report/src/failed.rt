@@ -39,10 +39,10 @@ fn note_end(ends: &mut Vec<Option<Ended>>, entry: &Record)
     }
 }
 
-/// Of each node, FINAL's place behind the others, the newest phase that ended.
+/// Of each node, FINAL's place after the others, the newest phase that ended.
 ///
 /// # Errors
-/// Want of memory.
+/// Lack of memory.
 pub(crate) fn last_ends(alloc: Global, core: &Core<'_>) -> Result<Vec<Option<Ended>>, AllocError>
     ensures { IfOk result (λ ends. AreLastEnds core.now.plan core.now.past ends.items) }
 {
@@ -82,7 +82,7 @@ fn in_plan_order(alloc: Global, core: &Core<'_>) -> Result<Vec<Failure>, AllocEr
     Ok(found)
 }
 
-/// Where a node in error stands among the others: those for which more nodes wait come first, and of
+/// Where a node in error is among the others: those for which more nodes wait come first, and of
 /// those for which as many wait that which comes first in the plan.
 fn rank_of(failure: &Failure) -> u64
     ensures { result ≡ rank_of failure.now }
@@ -96,7 +96,7 @@ fn rank_of(failure: &Failure) -> u64
 /// It goes over the nodes that wait, and their children, for each node in error.
 ///
 /// # Errors
-/// Want of memory, and nothing else.
+/// Lack of memory, and nothing else.
 pub fn failures(alloc: Global, core: &Core<'_>) -> Result<Vec<Failure>, AllocError>
     ensures { IfOk result (λ found. AreFailures core.now.plan core.now.past found.items) }
 {

@@ -164,7 +164,7 @@ fn nodes_of<R: Files<File = File> + AllocGlobal>(
 /// most nodes wait, and of as many in plan order. What the log and the files of jobs say is found as far as they can be read.
 ///
 /// # Errors
-/// Want of memory, and nothing else.
+/// Lack of memory, and nothing else.
 pub fn why_found<R: Files<File = File> + AllocGlobal>(
     rt: &R,
     core: &Core<'_>,

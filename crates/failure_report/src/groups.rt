@@ -75,7 +75,7 @@ fn add_failure(
 /// These nodes in error in groups, of which each has those with one cause.
 ///
 /// # Errors
-/// Want of memory.
+/// Lack of memory.
 pub(crate) fn groups_of<R: Files<File = File> + AllocGlobal>(
     rt: &R,
     run: &Run<'_, '_, '_>,

@@ -106,7 +106,7 @@ fn push_rest(text: &mut String, attempt: u32, retries: u32, waiting: u32) -> Res
 /// and how many nodes wait for it. The reason counts where the phase was not started.
 ///
 /// # Errors
-/// Want of memory, and nothing else.
+/// Lack of memory, and nothing else.
 pub(crate) fn push_head(
     text: &mut String,
     name: &str,

@@ -24,11 +24,11 @@ fn step(
     Ok(())
 }
 
-/// Of each node, FINAL's place behind the others, the facts of its newest launch, if it has one. The
+/// Of each node, FINAL's place after the others, the facts of its newest launch, if it has one. The
 /// records are gone through once more.
 ///
 /// # Errors
-/// Want of memory.
+/// Lack of memory.
 pub(crate) fn launch_facts(
     alloc: Global,
     core: &Core<'_>,

@@ -2,7 +2,7 @@
 //! jobs.
 //!
 //! Which nodes are in error, how each of them failed and how many wait for it are values (`failures`), the
-//! line of each is made of them, and behind it stands what is found by looking (`why_text`; as values: `why_found`). Those with one cause
+//! line of each is made of them, and after it is what is found by looking (`why_text`; as values: `why_found`). Those with one cause
 //! are reported once, in groups.
 #![tactic(auto)]
 

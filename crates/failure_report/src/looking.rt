@@ -63,7 +63,7 @@ fn lines_of(alloc: Global, file: &File, size: u64) -> Result<Quote, AllocError> 
 /// What the file of this path has at its end. What is no file, as a pipe or a terminal, is not opened.
 ///
 /// # Errors
-/// Want of memory.
+/// Lack of memory.
 pub(crate) fn quote_of<R: Files<File = File> + AllocGlobal>(
     rt: &R,
     path: &str,
@@ -81,7 +81,7 @@ pub(crate) fn quote_of<R: Files<File = File> + AllocGlobal>(
     }
 }
 
-/// Some words, and a path behind them.
+/// Some words, and a path after them.
 fn about(alloc: Global, words: &str, path: &str) -> Result<Option<String>, AllocError> {
     let mut text = String::from_str(alloc, words)?;
     push_word(&mut text, path)?;
@@ -180,7 +180,7 @@ fn first_line(bytes: &[u8]) -> &[u8] {
     }
 }
 
-/// What is wrong with a program whose first line, behind `#!`, is this.
+/// What is wrong with a program whose first line, after `#!`, is this.
 fn reader_repair<R: Files + AllocGlobal>(
     rt: &R,
     path: &str,
@@ -223,7 +223,7 @@ fn beginning_repair<R: Files + AllocGlobal>(
     )
 }
 
-/// What is wrong with a program that is not there. Perhaps its words are behind it.
+/// What is wrong with a program that is not there. Perhaps its words are after it.
 fn missing_repair<R: Files + AllocGlobal>(
     rt: &R,
     path: &str,
@@ -431,7 +431,7 @@ fn signal_repair(alloc: Global, number: u8) -> Result<Option<String>, AllocError
 /// How what is wrong with a phase that ended so is mended, as far as looking at its files tells.
 ///
 /// # Errors
-/// Want of memory.
+/// Lack of memory.
 pub(crate) fn repair_of<R: Files<File = File> + AllocGlobal>(
     rt: &R,
     command: &SeenCommand,

@@ -70,7 +70,7 @@ fn unknown(alloc: Global, plan: &Plan, top: &str, name: &str) -> Result<String, 
 /// first name that is none of a node, the line that reports it, with the name that is nearest to it where one is near.
 ///
 /// # Errors
-/// Want of memory.
+/// Lack of memory.
 pub fn numbers_of(
     alloc: Global,
     plan: &Plan,

@@ -53,7 +53,7 @@ fn without_end(text: &str) -> &str {
 /// bytes, so may the first of them, which is marked.
 ///
 /// # Errors
-/// Want of memory.
+/// Lack of memory.
 pub(crate) fn last_lines(
     alloc: Global,
     bytes: &[u8],

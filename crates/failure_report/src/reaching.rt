@@ -26,7 +26,7 @@ fn search_from(alloc: Global, lists: &[Vec<u32>], node: u32) -> Result<Search, A
 /// How many nodes are reached from one, of which each one has the next ones that stand in its list.
 ///
 /// # Errors
-/// Want of memory.
+/// Lack of memory.
 pub(crate) fn count_from(alloc: Global, lists: &[Vec<u32>], node: u32) -> Result<u32, AllocError>
     requires few { length lists.now < 2 ^ 32 }
     requires node { node < length lists.now }
@@ -40,7 +40,7 @@ pub(crate) fn count_from(alloc: Global, lists: &[Vec<u32>], node: u32) -> Result
 /// Which nodes are reached from one, of which each one has the next ones that are in its list: a mark for each list.
 ///
 /// # Errors
-/// Want of memory.
+/// Lack of memory.
 pub fn reached_from(alloc: Global, lists: &[Vec<u32>], node: u32) -> Result<Vec<bool>, AllocError>
     requires node { node < length lists.now }
     requires below { ListsAreBelow (length lists.now) (nodes_in lists.now) }

@@ -167,7 +167,7 @@ pub(crate) fn quote_at<R: Files<File = File> + AllocGlobal>(
 /// What the error output of a phase has that is reported, where it has one.
 ///
 /// # Errors
-/// Want of memory.
+/// Lack of memory.
 pub(crate) fn quoted_of<R: Files<File = File> + AllocGlobal>(
     rt: &R,
     run: &Run<'_, '_, '_>,
@@ -192,10 +192,10 @@ fn repair_at<R: Files<File = File> + AllocGlobal>(
     }
 }
 
-/// Adds what is reported of a phase behind its line.
+/// Adds what is reported of a phase after its line.
 ///
 /// # Errors
-/// Want of memory.
+/// Lack of memory.
 pub(crate) fn push_story<R: Files<File = File> + AllocGlobal>(
     rt: &R,
     text: &mut String,
@@ -219,7 +219,7 @@ pub(crate) fn push_story<R: Files<File = File> + AllocGlobal>(
 /// Why a phase was not started, in words: the path that was refused, and what the system said.
 ///
 /// # Errors
-/// Want of memory.
+/// Lack of memory.
 pub(crate) fn reason_of(
     alloc: Global,
     run: &Run<'_, '_, '_>,
@@ -246,7 +246,7 @@ fn outcome_of(value: i32) -> Option<Outcome> {
     }
 }
 
-/// What failed before a POST script in its attempt: PRE, behind which no job ran, or the job.
+/// What failed before a POST script in its attempt: PRE, after which no job ran, or the job.
 fn before_post(story: &Story) -> Option<Story> {
     let facts = story.facts?;
     if story.key.phase != Phase::Post {
@@ -320,7 +320,7 @@ fn push_no_more(
     Ok(())
 }
 
-/// What is reported of a node in error behind its line.
+/// What is reported of a node in error after its line.
 fn rest_of<R: Files<File = File> + AllocGlobal>(
     rt: &R,
     run: &Run<'_, '_, '_>,
@@ -353,10 +353,10 @@ pub(crate) fn story_of(run: &Run<'_, '_, '_>, node: u32, end: &Ended) -> Story {
     }
 }
 
-/// What is reported of a node in error: its line, and what stands behind it.
+/// What is reported of a node in error: its line, and what comes after it.
 ///
 /// # Errors
-/// Want of memory.
+/// Lack of memory.
 pub(crate) fn failure_block<R: Files<File = File> + AllocGlobal>(
     rt: &R,
     run: &Run<'_, '_, '_>,

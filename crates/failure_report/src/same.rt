@@ -73,7 +73,7 @@ fn push_same(text: &mut String, plan: &Plan, same: &[Failure]) -> Result<(), All
 /// What is reported of a group: what is of its first, and the line that names the others.
 ///
 /// # Errors
-/// Want of memory.
+/// Lack of memory.
 pub(crate) fn group_block<R: Files<File = File> + AllocGlobal>(
     rt: &R,
     run: &Run<'_, '_, '_>,

@@ -29,7 +29,7 @@ fn state_word(status: Status) -> &'static str {
     }
 }
 
-/// Adds the name of a node, and where it stands.
+/// Adds the name of a node, and where it is.
 fn push_named(text: &mut String, core: &Core<'_>, node: u32) -> Result<(), AllocError> {
     if node > core.plan().count() {
         return Ok(());
@@ -105,7 +105,7 @@ fn causes_of(alloc: Global, core: &Core<'_>, from: &[u32]) -> Result<Vec<u32>, A
     Ok(causes)
 }
 
-/// Adds for whom a node waits, and the nodes in error behind that.
+/// Adds for whom a node waits, and the nodes in error after that.
 fn push_waits(
     alloc: Global,
     text: &mut String,
@@ -249,7 +249,7 @@ fn push_running<R: Files<File = File> + AllocGlobal>(
 /// Adds what is reported of a node that is not in error.
 ///
 /// # Errors
-/// Want of memory.
+/// Lack of memory.
 pub(crate) fn push_standing<R: Files<File = File> + AllocGlobal>(
     rt: &R,
     text: &mut String,

@@ -23,7 +23,7 @@ fn held_by(alloc: Global, core: &Core<'_>, node: u32) -> Result<Vec<u32>, AllocE
     Ok(held)
 }
 
-/// Of each node, FINAL's place behind the others, the children that are not done.
+/// Of each node, FINAL's place after the others, the children that are not done.
 pub(crate) fn held_lists(alloc: Global, core: &Core<'_>) -> Result<Vec<Vec<u32>>, AllocError>
     ensures { IfOk result (λ lists. AreChildrenLeft core.now.plan core.now.past (nodes_in lists.items)) }
 {
@@ -37,7 +37,7 @@ pub(crate) fn held_lists(alloc: Global, core: &Core<'_>) -> Result<Vec<Vec<u32>>
 /// How many nodes wait for one, where these are the children of each that are not done.
 ///
 /// # Errors
-/// Want of memory.
+/// Lack of memory.
 pub(crate) fn waiting_for(
     alloc: Global,
     core: &Core<'_>,

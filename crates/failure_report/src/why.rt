@@ -25,7 +25,7 @@ use std::alloc::{AllocError, Global};
 use std::fs::File;
 use std::rt::Files;
 
-/// Where a run stands on the disk.
+/// Where a run is on the disk.
 #[derive(Clone, Copy)]
 pub struct Surroundings<'a> {
     /// The path of its DAG file.
@@ -187,7 +187,7 @@ fn push_round(text: &mut String, core: &Core<'_>) -> Result<(), AllocError> {
     }
 }
 
-/// What stands between a text and the next node: an empty line, where something stands before it.
+/// What is between a text and the next node: an empty line, where something is before it.
 fn gap_behind(text: &str) -> &'static str {
     if text.is_empty() { "" } else { "\n" }
 }
@@ -367,7 +367,7 @@ fn all_text<R: Files<File = File> + AllocGlobal>(
 /// failed, its outcome, the reason where it was not started, and the last line that is quoted of its error output.
 ///
 /// # Errors
-/// Want of memory, and nothing else.
+/// Lack of memory, and nothing else.
 pub fn why_text<R: Files<File = File> + AllocGlobal>(
     rt: &R,
     core: &Core<'_>,

@@ -55,7 +55,7 @@ done-by dag one two number (node ∷ nodes) d (suc i) lt =
     let e : number + 1 + i ≡ number + suc i = omega arith in
     (r.0, r.1 ∙ ap (λ (k : ℕ). r.0 || one.marked k) e, r.2 ∙ ap (λ (k : ℕ). r.0 || two.marked k) e)
 
--- the numbers at which a mark stands
+-- the numbers at which a mark is
 marked-past : (f : ℕ → Bool) (n number node : ℕ) → node < number → is_listed (marked (range_with_len number n) (map f (range_with_len number n))) node ≡ false
 marked-past f zero number node lt = refl
 marked-past f (suc n) number node lt = go (f number) (marked-past f n (number + 1) node (omega arith))

@@ -17,7 +17,7 @@ ghost use Rattle.fate_audit.specs.Audit.{AreSound, IsAuditOf, IsAuditNo};
 ghost use Rattle.fate_audit.specs.declared.fault.AuditNo.{AuditNo};
 ghost use Rattle.fate_audit.specs.declared.fault.AuditNo.TheVariants.{Memory};
 
-/// The bytes of a journal have one answer, want of memory apart: they are the journal of a finished
+/// The bytes of a journal have one answer, lack of memory apart: they are the journal of a finished
 /// run without abort, and then with one list of fates, or there is one cause why they aren't.
 pub fn one_answer()
     ensures sound { (plan : Plan) (bytes : List ℕ) (fates : List Fate) →

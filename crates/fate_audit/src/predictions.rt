@@ -158,7 +158,7 @@ fn fates_in_order(
 /// the phases of their stories.
 ///
 /// # Errors
-/// Want of memory, and nothing else.
+/// Lack of memory, and nothing else.
 pub fn predict(alloc: Global, plan: &Plan, table: &Table) -> Result<Vec<Fate>, AllocError>
     ensures { IfOk result (λ fates.
         AreFatesOf plan.now (table_by plan.now table.now) fates.items) }

@@ -9,11 +9,11 @@ use Rattle.fault_guide.specs.declared.guide.Fault.{Fault}
 abbrev pub has_code : List ℕ → Fault → Bool
 has_code code fault = bytes_eq (map to_ascii_lowercase fault.code.now) (map to_ascii_lowercase code)
 
--- a part behind its heading, where there is one
+-- a part after its heading, where there is one
 abbrev pub part_text : (heading part : List ℕ) → List ℕ
 part_text heading part = if length part == 0 then [] else codes "\n" ++ (heading ++ (codes ":\n" ++ part))
 
--- what stands behind a fault's name
+-- what comes after a fault's name
 abbrev pub detail_text : List ℕ → List ℕ
 detail_text detail = if length detail == 0 then [] else codes " " ++ detail
 

@@ -1,11 +1,11 @@
--- What is displayed behind the line of a refusal.
+-- What is displayed after the line of a refusal.
 use Rattle.std.specs.Prelude.{◌≡◌, ◌||◌, ℕ, Bool, true, false, List, [], ◌++◌, Option, Some, None, find, codes, option_map, if◌then◌else◌}
 use Rattle.std.specs.Str.{bytes_eq}
 use Rattle.fault_guide.specs.Guide.{has_code}
 use Rattle.fault_guide.specs.declared.guide.Fault.{Fault}
 use Rattle.std.specs.Borrow.{Bor}
 
--- what the system said, behind four blanks; nothing where it said nothing
+-- what the system said, after four blanks; nothing where it said nothing
 abbrev pub reason_line : Option (List ℕ) → List ℕ
 reason_line None = []
 reason_line (Some reason) = codes "    " ++ (reason ++ codes "\n")
@@ -22,7 +22,7 @@ guide_text code None = []
 guide_text code (Some fault) =
     if tells_what_to_write code then fault.advice.now else codes "    dagrun explain " ++ (code ++ codes " says more\n")
 
--- what some guide says of the fault of this code stands behind a text
+-- what some guide says of the fault of this code comes after a text
 pub record IsGuideText (code before now : List ℕ) : Type 0 where
   pub guide : List (Bor Fault)
   pub added : now ≡ before ++ guide_text code (option_map (λ f. f.now) (find (λ f. has_code code f.now) guide))
@@ -34,7 +34,7 @@ pub data IsAdvice (code : List ℕ) (has_source : Bool) (before now : List ℕ) 
   of_word : bytes_eq code (codes "L3") ≡ true → has_source ≡ true → (instead : List ℕ) →
       now ≡ before ++ (instead ++ codes "    docs/FROM_DAGMAN.md has an example.\n") → IsAdvice code has_source before now
 
--- What is displayed of a refusal of this code, where the system said this or nothing: what stands about the place that it names, which is
+-- What is displayed of a refusal of this code, where the system said this or nothing: what is said of the place that it names, which is
 -- nothing where the file of it isn't known; what the system said; and what to do.
 pub record IsHint (code : List ℕ) (reason : Option (List ℕ)) (has_source : Bool) (text : List ℕ) : Type 0 where
   pub about : List ℕ

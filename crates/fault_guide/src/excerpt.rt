@@ -35,7 +35,7 @@ fn columns(character: char) -> usize {
 /// A part of a line, and how many of its columns stand before the place.
 #[derive(Clone, Copy)]
 struct Part {
-    /// where its first character stands among the bytes of the line
+    /// where its first character is among the bytes of the line
     from: usize,
     caret: usize,
 }
@@ -75,11 +75,11 @@ fn push_blanks(text: &mut String, count: usize) -> Result<(), AllocError> {
     Ok(())
 }
 
-/// Adds the line of a place, behind its number, and below it a caret where the place has a column. Of a long
+/// Adds the line of a place, after its number, and below it a caret where the place has a column. Of a long
 /// line a part around the place is shown. Nothing is added where there is no such line, or it is no text.
 ///
 /// # Errors
-/// Want of memory.
+/// Lack of memory.
 pub(crate) fn push_excerpt(
     text: &mut String,
     source: &[u8],

@@ -6,7 +6,7 @@ ghost use Rattle.fault_guide.specs.Guide.{has_code, part_text, page_text, list_l
 use crate::{files, inner, jobs, lines, rounds, running};
 use std::alloc::{AllocError, Global};
 
-/// A fault: its code and its name, when it comes, what is displayed behind its name, an example of it as a
+/// A fault: its code and its name, when it comes, what is displayed after its name, an example of it as a
 /// transcript, and what to do.
 #[derive(Clone, Copy, Debug)]
 pub struct Fault {
@@ -18,7 +18,7 @@ pub struct Fault {
     pub advice: &'static str,
 }
 
-/// Adds these faults behind the others.
+/// Adds these faults after the others.
 fn add_all(all: &mut Vec<&'static Fault>, part: &'static [Fault]) -> Result<(), AllocError> {
     for fault in part {
         all.push(fault)?;
@@ -30,7 +30,7 @@ fn add_all(all: &mut Vec<&'static Fault>, part: &'static [Fault]) -> Result<(), 
 /// has them, then those that no command tells by their own code.
 ///
 /// # Errors
-/// Want of memory, and nothing else.
+/// Lack of memory, and nothing else.
 pub fn faults(alloc: Global) -> Result<Vec<&'static Fault>, AllocError> {
     let mut all = Vec::new(alloc);
     for part in [
@@ -64,7 +64,7 @@ pub fn fault_of<'f>(faults: &[&'f Fault], code: &str) -> Option<&'f Fault>
     first_of(faults, code).copied()
 }
 
-/// Adds a part of a page behind its heading, where there is one.
+/// Adds a part of a page after its heading, where there is one.
 fn push_part(text: &mut String, heading: &str, part: &str) -> Result<(), AllocError>
     ensures { OnOk result (string_bytes text.new ≡ string_bytes text.old ++ part_text heading.now part.now) }
 {
@@ -77,7 +77,7 @@ fn push_part(text: &mut String, heading: &str, part: &str) -> Result<(), AllocEr
 /// What is displayed of a fault.
 ///
 /// # Errors
-/// Want of memory, and nothing else.
+/// Lack of memory, and nothing else.
 pub fn page_text(alloc: Global, fault: &Fault) -> Result<String, AllocError>
     ensures { IfOk result (λ text. string_bytes text ≡ page_text fault.now) }
 {
@@ -110,7 +110,7 @@ fn push_line(text: &mut String, fault: &Fault) -> Result<(), AllocError>
 /// A line for each of these faults: its code, its name, and when it comes.
 ///
 /// # Errors
-/// Want of memory, and nothing else.
+/// Lack of memory, and nothing else.
 pub fn list_text(alloc: Global, faults: &[&Fault]) -> Result<String, AllocError>
     ensures { IfOk result (λ text. string_bytes text ≡ list_text (map (λ f. f.now) faults.now)) }
 {

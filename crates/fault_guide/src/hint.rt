@@ -1,4 +1,4 @@
-//! What is displayed behind a refusal.
+//! What is displayed after a refusal.
 
 ghost use Rattle.std.specs.Prelude.{◌≡◌, ◌++◌, [], true, false, is_some, option_map, IfOk, IfSome, OnOk, string_bytes, codes};
 ghost use Rattle.std.specs.Str.{bytes_eq};
@@ -137,7 +137,7 @@ fn push_meant(
     Ok(())
 }
 
-/// What stands about the place that a refusal names: the line of the file, and what may have been meant there.
+/// What is said of the place that a refusal names: the line of the file, and what may have been meant there.
 fn about_place(
     alloc: Global,
     refusal: &Refusal<'_>,
@@ -225,11 +225,11 @@ fn push_advice(
     }
 }
 
-/// What is displayed behind the line of a refusal, each line of it behind four blanks: the line of the file at
+/// What is displayed after the line of a refusal, each line of it after four blanks: the line of the file at
 /// the place that it names, what may have been meant there, what the system said, and what to do.
 ///
 /// # Errors
-/// Want of memory.
+/// Lack of memory.
 pub fn hint_text(
     alloc: Global,
     refusal: &Refusal<'_>,

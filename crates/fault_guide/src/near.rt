@@ -18,7 +18,7 @@ fn most_edits(word: &str) -> usize
 /// may differ, three at most, and as many bytes may be more or less. So a word of one or two letters is near itself alone.
 ///
 /// # Errors
-/// Want of memory.
+/// Lack of memory.
 pub fn nearest<'a>(
     alloc: Global,
     word: &str,

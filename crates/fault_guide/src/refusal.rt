@@ -16,11 +16,11 @@ pub struct SourcePlace<'a> {
 pub struct Refusal<'a> {
     /// The code of the fault, as `L2`.
     pub code: &'a str,
-    /// What stands behind the fault's name: a path, a place, names.
+    /// What comes after the fault's name: a path, a place, names.
     pub detail: &'a str,
 }
 
-/// A number and what stands before the colon in front of it.
+/// A number and what is before the colon in front of it.
 fn number_behind(text: &str) -> Option<(&str, usize)> {
     let (front, number) = text.rsplit_once(':')?;
     Some((front, number.parse().ok()?))

@@ -18,7 +18,7 @@ wrong-lines form files path text warnings [] some are none is = absurd (omega ar
 wrong-lines form files path text warnings (fault ∷ others) some are none is =
     lines_wrong (record { first = fault; others = others; are_faults = are; text_is = none; warnings_are = is; status_is = refl })
 
--- want of memory may stop any check
+-- lack of memory may stop any check
 no-memory : (files : FileSet) (path : List ℕ) → IsRefusalOfAll files path Memory
 no-memory files path = record { is_fault = checking_had_no_memory; has_no_line = refl }
 

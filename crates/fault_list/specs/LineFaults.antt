@@ -19,7 +19,7 @@ pub record IsEmptiedAt (files : FileSet) (place : List ℕ × ℕ) (after : File
   pub emptied : bytes_of after place.0 ≡ option_map (without_line place.1) (bytes_of files place.0)
   pub others : (other : List ℕ) → other ≢ place.0 → bytes_of after other ≡ bytes_of files other
 
--- what `check` comes to: it answers, or is refused for a fault other than want of memory
+-- what `check` comes to: it answers, or is refused for a fault other than lack of memory
 abbrev pub IsCheckedTo : Files → List ℕ → Option RunFault → Type 0
 IsCheckedTo files path None = (text warnings : List ℕ) × (status : ℕ) × IsCheckOf Line files path text warnings status
 IsCheckedTo files path (Some fault) = IsCheckFault files path fault × (fault ≢ Memory)
@@ -60,7 +60,7 @@ pub data IsCheckOfAll (form : CheckForm) (files : FileSet) (path text warnings :
   nothing_wrong : IsCheckOf form (bytes_of files) path text warnings status → IsCheckOfAll form files path text warnings status
   lines_wrong : ListsLineFaults files path text warnings status → IsCheckOfAll form files path text warnings status
 
--- Why it is refused: for a fault of `check` that names no line; want of memory is one.
+-- Why it is refused: for a fault of `check` that names no line; lack of memory is one.
 pub record IsRefusalOfAll (files : FileSet) (path : List ℕ) (fault : RunFault) : Type 0 where
   pub is_fault : IsCheckFault (bytes_of files) path fault
   pub has_no_line : fault_place fault ≡ None

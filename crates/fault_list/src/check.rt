@@ -19,7 +19,7 @@ const REFUSED: u8 = 125;
 /// A fault of names (S5, S9, S10, S11) ends the list once a line is empty for another fault, since it may follow from that.
 ///
 /// # Errors
-/// Those of `check_text` that name no line, want of memory among them.
+/// Those of `check_text` that name no line, lack of memory among them.
 pub fn check_all(
     alloc: Global,
     files: FileSet,

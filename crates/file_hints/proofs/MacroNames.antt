@@ -27,7 +27,7 @@ front_text (b ∷ bs) = text_by (is_reference_byte b) b (prefix_len is_reference
 pub name_text : (bs : List ℕ) (at : ℕ) → at ≡ length (take_while is_reference_byte bs) → IsUtf8 (take at bs)
 name_text bs at h = subst (λ (n : ℕ). IsUtf8 (take n bs)) (sym (h ∙ length-prefix_len is_reference_byte bs)) (front_text bs)
 
--- behind the last byte no reference is left
+-- after the last byte no reference is left
 pub none_left : (dollar : Bool) (rest : List ℕ) → length rest < 1 → references_from dollar rest ≡ []
 none_left dollar [] h = refl
 none_left dollar (b ∷ bs) h = absurd (omega arith)

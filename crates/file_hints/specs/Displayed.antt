@@ -5,7 +5,7 @@ use Rattle.file_hints.specs.declared.hint.Hint.{Hint}
 use Rattle.file_hints.specs.declared.hint.Hint.TheVariants.{UnknownName, Misspelled, PassedOver, BelowQueue, Unassigned, MisspelledMacro, MissingProgram, Elsewhere, WordsInProgram, FolderAsProgram, SpecialAsProgram, NotExecutable, CarriageReturn, MissingReader, MissingFolder, SharedOutput, NoLog, NoEnvironment, OwnFolder, ContinuedComment, LaunchNumber, SkipValue, SignalValue, NoopScript}
 use Rattle.file_hints.specs.declared.hint.Finding.{Finding}
 
--- what stands behind the place
+-- what comes after the place
 abbrev pub hint_text : Hint → List ℕ
 hint_text (UnknownName name) = name ++ codes " is no command that dagrun reads, and no macro that is referred to: take the line away"
 hint_text (Misspelled name meant) = name ++ (codes " is no command that dagrun reads, and no macro that is referred to: is " ++ (meant ++ codes " meant?"))

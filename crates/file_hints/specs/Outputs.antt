@@ -18,7 +18,7 @@ AreRelated edges a b = (a ≡ b) ⊎ (IsAncestor edges a b ⊎ IsAncestor edges 
 abbrev pub a_clash : Writer → Writer → Clash
 a_clash v w = record { first = v.node; second = w.node; path = w.path }
 
--- the clashes with those of a writer, behind the last one before it that writes the same file
+-- the clashes with those of a writer, after the last one before it that writes the same file
 abbrev pub HasClash : List Edge → Option Writer → Writer → (old new : List Clash) → Type 0
 HasClash edges None w old new = new ≡ old
 HasClash edges (Some v) w old new = (AreRelated edges v.node w.node × (new ≡ old)) ⊎ ((¬ AreRelated edges v.node w.node) × (new ≡ old ++ a_clash v w ∷ []))

@@ -19,7 +19,7 @@ abbrev pub folder_hint : List ℕ → (is_there : Bool) → Option Hint
 folder_hint path true = None
 folder_hint path false = Some (MissingFolder path (shell_path path))
 
--- the first line ends (10) right behind its first carriage return (13)
+-- the first line ends (10) right after its first carriage return (13)
 abbrev pub ends_with_return : List ℕ → Bool
 ends_with_return [] = false
 ends_with_return (b ∷ bs) = if b == 10 then false else if b == 13 then begins_with 10 bs else ends_with_return bs

@@ -28,7 +28,7 @@ Row = Bor (List ℕ) × Bor (List ℕ)
 abbrev pub advice_in : List Row → List ℕ → Option (List ℕ)
 advice_in rows name = option_map (λ row. row.1.now) (find (λ row. is_same_word row.0.now name) rows)
 
--- an attribute of a job's own: behind a plus (43), or what stands before the first full stop (46) is MY
+-- an attribute of a job's own: after a plus (43), or what is before the first full stop (46) is MY
 abbrev pub is_attribute : List ℕ → Bool
 is_attribute name = begins_with 43 name || is_same_word (take_while (λ b. not (b == 46)) name) (codes "my")
 
@@ -40,7 +40,7 @@ is_referred referred name = list_any (λ r. is_same_word r.name name) referred
 abbrev pub is_meant : CommandNames → List Reference → List ℕ → Bool
 is_meant names referred name = (is_word_listed names.read.now name || is_word_listed names.harmless.now name) || (is_attribute name || is_referred referred name)
 
--- What is odd in a name above the queue line, for which this advice stands, or none.
+-- What is odd in a name above the queue line, for which there is this advice, or none.
 abbrev pub hint_by : CommandNames → List Reference → List ℕ → Option (List ℕ) → Option Hint
 hint_by names referred name (Some advice) = Some (PassedOver name advice)
 hint_by names referred name None = if is_meant names referred name then None else Some (UnknownName name)

@@ -11,10 +11,10 @@ use splices_flat::target_line;
 use std::alloc::{AllocError, Global};
 
 /// What would be otherwise of a DAG file with these lines: PRE_SKIP with a value that is no exit code; values below
-/// zero in ABORT-DAG-ON and behind UNLESS-EXIT; scripts of nodes that are NOOPs. It stands in the order of the lines.
+/// zero in ABORT-DAG-ON and after UNLESS-EXIT; scripts of nodes that are NOOPs. It is in the order of the lines.
 ///
 /// # Errors
-/// Want of memory.
+/// Lack of memory.
 pub fn dag_notes(alloc: Global, commands: &[Command]) -> Result<Vec<Finding>, AllocError>
     ensures { IfOk result (λ found. found.items ≡ dag_notes commands.now commands.now) }
 {

@@ -20,7 +20,7 @@ pub(crate) struct Findings {
 }
 
 impl Findings {
-    /// Nothing so far: the DAG file stands first, and then the others in the order of their paths.
+    /// Nothing so far: the DAG file is first, and then the others in the order of their paths.
     pub(crate) fn new(alloc: Global, files: &FileSet, top: &str) -> Result<Findings, AllocError> {
         let mut findings = Findings {
             paths: NameTable::new(alloc),

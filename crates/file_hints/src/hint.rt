@@ -7,7 +7,7 @@ use dag_reader::Text;
 use std::alloc::{AllocError, Global};
 use std::fmt;
 
-/// What is odd. It is displayed as what stands behind the place: what it is, and behind a colon what to write instead.
+/// What is odd. It is displayed as what comes after the place: what it is, and after a colon what to write instead.
 #[derive(Drop)]
 pub enum Hint {
     /// A name that is no command, and to which nothing refers.
@@ -210,7 +210,7 @@ pub struct Finding {
 /// The line by which a finding in the file of this path is displayed: `hint:` or `condor:`, the place, and what it is.
 ///
 /// # Errors
-/// Want of memory.
+/// Lack of memory.
 pub fn finding_line(alloc: Global, path: &str, finding: &Finding) -> Result<String, AllocError>
     ensures { IfOk result (λ line. string_bytes line ≡ finding_line path.now finding.now) }
 {

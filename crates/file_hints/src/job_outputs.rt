@@ -87,7 +87,7 @@ fn note(
         return Ok(());
     };
     let path = path.as_str();
-    // What stands there is no file.
+    // What is there is no file.
     if path.starts_with("/dev/") {
         return Ok(());
     }
@@ -157,7 +157,7 @@ fn add_clash(
 /// such file for one reason.
 ///
 /// # Errors
-/// Want of memory.
+/// Lack of memory.
 pub(crate) fn add_clashes(
     alloc: Global,
     graph: &Graph,

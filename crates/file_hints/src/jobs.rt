@@ -105,7 +105,7 @@ impl JobFiles {
     }
 }
 
-/// Assigns the macros of VARS lines that stand before the submit file, or behind it.
+/// Assigns the macros of VARS lines that stand before the submit file, or after it.
 fn assign_settings(
     alloc: Global,
     node: &FlatNode,
@@ -219,7 +219,7 @@ fn add_command<R: Files<File = File> + Env + AllocGlobal>(
 /// Adds what is odd in the files of all jobs, and says which files each ordinary node writes.
 ///
 /// # Errors
-/// Want of memory.
+/// Lack of memory.
 pub(crate) fn add_commands<R: Files<File = File> + Env + AllocGlobal>(
     rt: &R,
     jobs: &JobFiles,

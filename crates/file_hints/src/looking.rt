@@ -137,7 +137,7 @@ fn program_at<R: Files + Env + AllocGlobal>(
     }
 }
 
-/// Whether the path of a program, which is not there, has the words of that program behind its first blank.
+/// Whether the path of a program, which is not there, has the words of that program after its first blank.
 fn words_in_program<R: Files + Env + AllocGlobal>(
     rt: &R,
     path: &str,
@@ -176,7 +176,7 @@ fn missing_program<R: Files + Env + AllocGlobal>(
 /// What is odd in the program of this path.
 ///
 /// # Errors
-/// Want of memory.
+/// Lack of memory.
 pub fn look_at_program<R: Files<File = File> + Env + AllocGlobal>(
     rt: &R,
     path: &str,
@@ -200,7 +200,7 @@ pub fn folder_of(path: &str) -> &str {
 /// What is odd in the folder of this path.
 ///
 /// # Errors
-/// Want of memory.
+/// Lack of memory.
 pub fn look_at_folder<R: Files + AllocGlobal>(
     rt: &R,
     path: &str,

@@ -20,7 +20,7 @@ pub struct Reference {
 /// The references of a text, in their order, those within defaults among them. What follows two dollar signs is none.
 ///
 /// # Errors
-/// Want of memory.
+/// Lack of memory.
 pub fn references(alloc: Global, text: &str) -> Result<Vec<Reference>, AllocError>
     ensures { IfOk result (λ found. found.items ≡ references text.now) }
 {
@@ -49,7 +49,7 @@ pub(crate) fn push_references(
     Ok(())
 }
 
-/// Adds the reference that begins in front of a text, behind a dollar sign, if there is one.
+/// Adds the reference that begins in front of a text, after a dollar sign, if there is one.
 fn push_reference(alloc: Global, found: &mut Vec<Reference>, text: &[u8]) -> Result<(), AllocError>
     ensures { OnOk result (found.new.items ≡ found.old.items ++ reference_in text.now) }
 {
@@ -59,7 +59,7 @@ fn push_reference(alloc: Global, found: &mut Vec<Reference>, text: &[u8]) -> Res
     Ok(())
 }
 
-/// The reference that begins in front of a text with its parenthesis, behind a dollar sign.
+/// The reference that begins in front of a text with its parenthesis, after a dollar sign.
 fn reference_in(alloc: Global, text: &[u8]) -> Result<Option<Reference>, AllocError>
     ensures { IfOk result (λ found. option_to_list found ≡ reference_in text.now) }
 {

@@ -15,7 +15,7 @@ use submit_file::{Assignment, PlacedAssignment};
 /// The findings, in which a name of nothing has the nearest command beside it, where one is near.
 ///
 /// # Errors
-/// Want of memory.
+/// Lack of memory.
 pub fn with_meant(
     alloc: Global,
     names: &CommandNames<'_>,
@@ -67,7 +67,7 @@ fn better_hint(alloc: Global, known: &[&str], hint: Hint) -> Result<Hint, AllocE
 /// assigned nowhere has the nearest one beside it, where one is near, whatever the case of its letters.
 ///
 /// # Errors
-/// Want of memory.
+/// Lack of memory.
 pub fn with_meant_macros<'a>(
     alloc: Global,
     names: &CommandNames<'a>,

@@ -18,7 +18,7 @@ use submit_file::PlacedAssignment;
 /// of its first line.
 ///
 /// # Errors
-/// Want of memory.
+/// Lack of memory.
 pub fn submit_notes(alloc: Global, placed: &[PlacedAssignment]) -> Result<Vec<Finding>, AllocError>
     ensures { IfOk result (λ found. found.items ≡ submit_notes placed.now) }
 {
@@ -96,7 +96,7 @@ fn is_launch_name(name: &str) -> bool
 /// Comments of a submit file that end with a backslash.
 ///
 /// # Errors
-/// Want of memory.
+/// Lack of memory.
 pub fn comment_notes(alloc: Global, text: &[u8]) -> Result<Vec<Finding>, AllocError>
     ensures { IfOk result (λ found. found.items ≡ comment_notes 1 (lines text.now)) }
 {

@@ -28,7 +28,7 @@ pub struct Clash {
 /// once: of nodes in a chain each is an ancestor of the next.
 ///
 /// # Errors
-/// Want of memory.
+/// Lack of memory.
 pub fn clashes(alloc: Global, graph: &Graph, writers: &[Writer]) -> Result<Vec<Clash>, GraphFault>
     ensures found { IfOk result (λ found. AreClashes graph.now.dag.edges [] writers.now found.items) }
     ensures err { IfErr result (λ fault. fault ≡ Memory) }

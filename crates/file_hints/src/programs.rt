@@ -8,7 +8,7 @@ use crate::shell_path::shell_path;
 use dag_reader::Text;
 use std::alloc::{AllocError, Global};
 
-/// What stands at the path of a program.
+/// What is at the path of a program.
 #[derive(Clone, Copy, Debug, PartialEq, Eq)]
 pub enum ProgramState {
     /// A file that may be run.
@@ -28,7 +28,7 @@ pub enum ProgramState {
 /// What is odd in the program of this path.
 ///
 /// # Errors
-/// Want of memory.
+/// Lack of memory.
 pub fn program_hint(
     alloc: Global,
     path: &str,
@@ -51,7 +51,7 @@ pub fn program_hint(
 /// What is odd in the folder of this path, which is there or not.
 ///
 /// # Errors
-/// Want of memory.
+/// Lack of memory.
 pub fn folder_hint(alloc: Global, path: &str, is_there: bool) -> Result<Option<Hint>, AllocError>
     ensures { IfOk result (λ hint. hint ≡ folder_hint path.now is_there) }
 {
@@ -76,7 +76,7 @@ pub fn state_by(is_executable: bool, beginning: &[u8]) -> ProgramState
     }
 }
 
-/// Whether the first carriage return of some bytes stands at the end of their first line.
+/// Whether the first carriage return of some bytes is at the end of their first line.
 fn ends_with_return(bytes: &[u8]) -> bool
     ensures { result ≡ ends_with_return bytes.now }
 {

@@ -69,7 +69,7 @@ impl<'a> Declared<'a> {
 /// Adds what is odd in the scripts of a DAG file's nodes.
 ///
 /// # Errors
-/// Want of memory.
+/// Lack of memory.
 pub(crate) fn add_scripts<R: Files<File = File> + Env + AllocGlobal>(
     rt: &R,
     files: &FileSet,

@@ -22,7 +22,7 @@ fn below_here(alloc: Global, path: &str) -> Result<Text, AllocError>
 /// A path as a shell reads it after the name of a command.
 ///
 /// # Errors
-/// Want of memory.
+/// Lack of memory.
 pub(crate) fn shell_path(alloc: Global, path: &str) -> Result<Text, AllocError>
     ensures { IfOk result (λ word. word ≡ shell_path path.now) }
 {

@@ -14,11 +14,11 @@ use std::alloc::{AllocError, Global};
 use submit_file::{Assignment, PlacedAssignment};
 
 /// What is odd in a submit file with these assignments, for nodes whose VARS lines assign those: names of no command
-/// and no macro that is referred to; commands that are passed over; what stands below the queue line; macros that
-/// are referred to without a default, and assigned nowhere. It stands in the order of the lines.
+/// and no macro that is referred to; commands that are passed over; what is below the queue line; macros that
+/// are referred to without a default, and assigned nowhere. It is in the order of the lines.
 ///
 /// # Errors
-/// Want of memory.
+/// Lack of memory.
 pub fn submit_hints(
     alloc: Global,
     names: &CommandNames<'_>,
@@ -151,7 +151,7 @@ fn is_attribute(name: &str) -> bool
     begins_with(b'+', bytes) || is_same_word(&bytes[..dot_in(bytes)], b"my")
 }
 
-/// Where the first full stop stands, or the end.
+/// Where the first full stop is, or the end.
 fn dot_in(bytes: &[u8]) -> usize
     ensures value { result ≡ length (take_while (λ b. not (b == 46)) bytes.now) }
     ensures within { result ≤ length bytes.now }

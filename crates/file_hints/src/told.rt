@@ -41,7 +41,7 @@ impl Wanted {
 /// nothing of files that two nodes write.
 ///
 /// # Errors
-/// Want of memory.
+/// Lack of memory.
 pub fn hints_of<R: Files<File = File> + Env + AllocGlobal>(
     rt: &R,
     files: &FileSet,

@@ -28,7 +28,7 @@ const MOST_COME: usize = 1 << 20;
 /// # Errors
 /// Standard input that is asked for and can't be read (`FileRefused`); the first fault that opening the files meets
 /// (`InFiles`), a cycle (`Cycle`), the first fault of the submit files and the texts of jobs, in plan order (`InPlan`);
-/// want of memory.
+/// lack of memory.
 pub fn check_here<F: Folder>(
     alloc: Global,
     folder: &F,

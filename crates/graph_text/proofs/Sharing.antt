@@ -28,7 +28,7 @@ shared-none : (names : List (List ℕ)) → shared names [] ≡ 0
 shared-none [] = refl
 shared-none (name ∷ names) = refl
 
--- behind the last of the second there is nothing to share
+-- after the last of the second there is nothing to share
 pub shared-end : (names : List (List ℕ)) (ys : List (Bor (List ℕ))) (k : ℕ) → length ys ≤ k → shared names (drop k (texts ys)) ≡ 0
 shared-end names ys k end =
     ap (shared names) (drop_all k (texts ys) (omega (arith, end, length-map ys (λ (part : Bor (List ℕ)). part.now)))) ∙ shared-none names

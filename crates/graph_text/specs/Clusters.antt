@@ -38,7 +38,7 @@ closings depth (suc count) = indent (depth + suc count) ++ (codes "}\n" ++ closi
 abbrev pub shared : List (List ℕ) → List (List ℕ) → ℕ
 shared before scope = common_prefix_len bytes_eq before scope
 
--- From one node to the next: the clusters that the next does not share end, and those in which it stands beside them begin.
+-- From one node to the next: the clusters that the next does not share end, and those in which it is beside them begin.
 abbrev pub moved : (node : ℕ) → (before scope : List (List ℕ)) → List ℕ
 moved node before scope =
     closings (shared before scope) (length before - shared before scope) ++ openings node (shared before scope) (drop (shared before scope) scope)

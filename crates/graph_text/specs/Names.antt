@@ -15,7 +15,7 @@ escaped_label character =
 abbrev pub quoted_label : List ℕ → List ℕ
 quoted_label text = codes "\"" ++ (flat_map escaped_label (chars text) ++ codes "\"")
 
--- the parts of a full name, between its `+`: the splices in which the node stands, the outermost first, and its own name
+-- the parts of a full name, between its `+`: the splices in which the node is, the outermost first, and its own name
 abbrev pub parts_of : List ℕ → List (List ℕ)
 parts_of name = slice_split (λ b. b == 43) name
 
@@ -27,7 +27,7 @@ splices_among parts = take (length parts - 1) parts
 abbrev pub own_in : List (List ℕ) → List ℕ
 own_in parts = slice_index_or parts (length parts - 1) []
 
--- the splices in which a node of this full name stands, and its own name
+-- the splices in which a node of this full name is, and its own name
 abbrev pub splices_of_name : List ℕ → List (List ℕ)
 splices_of_name name = splices_among (parts_of name)
 

@@ -30,7 +30,7 @@ abbrev pub states_of : Drawn → ℕ → Option Status
 states_of (drawn.Bare plan) = unknown
 states_of (drawn.Run core) = known core.now.plan core.now.past
 
--- The colour of a node that stands so, by a name that graphviz knows, and where it stands in words, which are shown where a pointer rests on it.
+-- The colour of a node that is so, by a name that graphviz knows, and where it is in words, which are shown where a pointer rests on it.
 abbrev pub status_text : Status → List ℕ
 status_text Done = codes ", fillcolor=palegreen, tooltip=\"done\""
 status_text Error = codes ", fillcolor=lightcoral, tooltip=\"in error\""
@@ -40,16 +40,16 @@ status_text PostRun = codes ", fillcolor=lightskyblue, tooltip=\"its POST script
 status_text Ready = codes ", fillcolor=khaki, tooltip=\"ready\""
 status_text NotReady = codes ", fillcolor=white, tooltip=\"waits\""
 
--- where a node stands, if that is known
+-- where a node is, if that is known
 abbrev pub state_text : Option Status → List ℕ
 state_text None = []
 state_text (Some status) = status_text status
 
--- the FINAL node, which comes behind all others, has a double frame
+-- the FINAL node, which comes after all others, has a double frame
 abbrev pub frame_text : Plan → ℕ → List ℕ
 frame_text plan node = if node == count_of plan then codes ", peripheries=2" else []
 
--- what is shown of a node: its own name, its frame, and where it stands
+-- what is shown of a node: its own name, its frame, and where it is
 abbrev pub attributes_text : (own frame state : List ℕ) → List ℕ
 attributes_text own frame state = codes " [label=" ++ (quoted_label own ++ (frame ++ (state ++ codes "];\n")))
 
@@ -59,7 +59,7 @@ drawn_node plan status node =
     let name = (node_at plan node).name in
     indent (length (splices_of_name name) + 1) ++ (quoted_label name ++ attributes_text (own_of name) (frame_text plan node) (state_text status))
 
--- the splices in which the node before this one stands; before the first there is none
+-- the splices in which the node before this one is; before the first there is none
 abbrev pub scope_before : Plan → ℕ → List (List ℕ)
 scope_before plan zero = []
 scope_before plan (suc n) = splices_of_name (node_at plan n).name
@@ -70,7 +70,7 @@ node_lines plan states zero = []
 node_lines plan states (suc n) =
     node_lines plan states n ++ (moved n (scope_before plan n) (splices_of_name (node_at plan n).name) ++ drawn_node plan (states n) n)
 
--- all nodes, and the ends of the clusters that are open behind the last
+-- all nodes, and the ends of the clusters that are open after the last
 abbrev pub all_drawn : Plan → (ℕ → Option Status) → List ℕ
 all_drawn plan states =
     node_lines plan states (reported plan) ++ closings 0 (length (scope_before plan (reported plan)))

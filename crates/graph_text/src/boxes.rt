@@ -17,7 +17,7 @@ use run_plan::Plan;
 use status_report::Status;
 use std::alloc::{AllocError, Global};
 
-/// Where each of these nodes stands, if that is to be seen.
+/// Where each of these nodes is, if that is to be seen.
 fn states_among(
     alloc: Global,
     drawn: &Drawn<'_>,
@@ -188,7 +188,7 @@ fn text_by(alloc: Global, drawn: &Drawn<'_>, classes: &[u32]) -> Result<String, 
 /// A graph that takes many rounds to be folded is drawn with a box for each node.
 ///
 /// # Errors
-/// Want of memory, and nothing else.
+/// Lack of memory, and nothing else.
 pub fn folded_text(alloc: Global, drawn: &Drawn<'_>) -> Result<String, AllocError>
     ensures { IfOk result (λ text. IsFoldedText (drawn_plan drawn.now) (states_of drawn.now) (string_bytes text)) }
 {

@@ -113,7 +113,7 @@ fn unfolded(alloc: Global, count: u32) -> Result<Vec<u32>, AllocError>
 /// these were not found in few rounds, those by which each node is alone.
 ///
 /// # Errors
-/// Want of memory, and nothing else.
+/// Lack of memory, and nothing else.
 pub fn folding_of(alloc: Global, plan: &Plan) -> Result<Vec<u32>, AllocError>
     ensures { IfOk result (λ classes. IsFolding plan.now (slice_index classes.items)) }
 {

@@ -38,7 +38,7 @@ impl Members {
         self.numbers.as_slice()
     }
 
-    /// Adds a number behind the others.
+    /// Adds a number after the others.
     fn push(&mut self, number: u32) -> Result<(), AllocError>
         ensures { OnOk result (self.new ≡ self.old ++ number ∷ []) }
     {

@@ -86,8 +86,8 @@ fn shared(before: &[&str], scope: &[&str]) -> usize
     count
 }
 
-/// Adds what stands between two nodes: the clusters that the next one does not share end, and those
-/// in which it stands beside them begin.
+/// Adds what is between two nodes: the clusters that the next one does not share end, and those
+/// in which it is beside them begin.
 pub(crate) fn push_move(
     text: &mut String,
     node: u32,

@@ -36,7 +36,7 @@ pub(crate) fn push_quoted(text: &mut String, name: &str) -> Result<(), AllocErro
     text.push_str("\"")
 }
 
-/// The parts of a full name: the splices in which the node stands, the outermost first, and its own
+/// The parts of a full name: the splices in which the node is, the outermost first, and its own
 /// name.
 pub(crate) fn parts_of<'a>(alloc: Global, name: &'a str) -> Result<Vec<&'a str>, AllocError>
     ensures { IfOk result (λ parts. map (λ part. part.now) parts.items ≡ parts_of name.now) }

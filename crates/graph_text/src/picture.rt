@@ -20,7 +20,7 @@ use std::alloc::{AllocError, Global};
 pub enum Drawn<'a> {
     /// A plan, of whose nodes nothing is known.
     Bare(&'a Plan),
-    /// The plan of a run, with where each node stands.
+    /// The plan of a run, with where each node is.
     Run(&'a Core<'a>),
 }
 
@@ -35,7 +35,7 @@ impl<'a> Drawn<'a> {
         }
     }
 
-    /// Where a node stands, if that is to be seen.
+    /// Where a node is, if that is to be seen.
     pub(crate) fn status(&self, node: u32) -> Option<Status>
         requires { node ≤ count_of (drawn_plan self.now) }
         ensures { result ≡ states_of self.now node }
@@ -47,7 +47,7 @@ impl<'a> Drawn<'a> {
     }
 }
 
-/// The colour of a node that stands so, by a name that graphviz knows, and where it stands in words, which
+/// The colour of a node that is so, by a name that graphviz knows, and where it is in words, which
 /// are shown where a pointer rests on it.
 fn status_text(status: Status) -> &'static str
     ensures { result.now ≡ status_text status }
@@ -63,7 +63,7 @@ fn status_text(status: Status) -> &'static str
     }
 }
 
-/// What is displayed of where a node stands, if that is to be seen.
+/// What is displayed of where a node is, if that is to be seen.
 fn state_text(status: Option<Status>) -> &'static str
     ensures { result.now ≡ state_text status }
 {
@@ -84,7 +84,7 @@ pub(crate) fn frame_text(plan: &Plan, node: u32) -> &'static str
     }
 }
 
-/// Adds what is shown of a node: its own name, its frame, and where it stands.
+/// Adds what is shown of a node: its own name, its frame, and where it is.
 pub(crate) fn push_attributes(
     text: &mut String,
     own: &str,
@@ -119,7 +119,7 @@ fn push_node(
     push_attributes(text, own_in(parts), frame, state)
 }
 
-/// Adds a node behind the one before it, each of which stands in the splices among these parts.
+/// Adds a node after the one before it, each of which is in the splices among these parts.
 fn push_next(
     text: &mut String,
     drawn: &Drawn<'_>,
@@ -137,7 +137,7 @@ fn push_next(
     push_node(text, drawn, node, parts)
 }
 
-/// How many nodes are drawn: the ordinary ones, and the FINAL node behind them.
+/// How many nodes are drawn: the ordinary ones, and the FINAL node after them.
 pub(crate) fn drawn_nodes(plan: &Plan) -> u32
     ensures is { result ≡ reported plan.now }
     ensures few { result ≤ count_of plan.now + 1 }
@@ -204,11 +204,11 @@ fn push_edges(text: &mut String, plan: &Plan) -> Result<(), AllocError>
 }
 
 /// The picture of a DAG as a graph in DOT: each node with its own name as label, within a cluster for
-/// each splice in which it stands, the FINAL node with a double frame; and an edge from each node to
-/// each of its children. Where a run is drawn, a node's colour says where it stands in it.
+/// each splice in which it is, the FINAL node with a double frame; and an edge from each node to
+/// each of its children. Where a run is drawn, a node's colour says where it is in it.
 ///
 /// # Errors
-/// Want of memory, and nothing else.
+/// Lack of memory, and nothing else.
 pub fn dot_text(alloc: Global, drawn: &Drawn<'_>) -> Result<String, AllocError>
     ensures { IfOk result (λ text. string_bytes text ≡ dot_text_of (drawn_plan drawn.now) (states_of drawn.now)) }
 {

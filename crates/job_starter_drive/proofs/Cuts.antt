@@ -26,7 +26,7 @@ pub older-is : {A : Type 0} (held kept : List A) → kept ≡ held → IsOlderPa
 older-is held kept same = ([], same)
 
 module _ (limits : Limits) (plan : Plan) (may : Telling) where
-  -- the records that stood there are kept
+  -- the records that were there are kept
   pub step-records : (from to : Standing) → IsStep limits plan may from to → IsOlderPart (drive_records from) (drive_records to)
   step-records _ _ (launch_round {past = past} {keys = keys} lawful going unhalted step round) = launched-older past keys
   step-records _ _ (skip_noop {past = past} quiet) = older-self past

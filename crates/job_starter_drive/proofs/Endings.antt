@@ -22,7 +22,7 @@ use Rattle.job_starter_drive.specs.Moments.{IsOlderPart}
 use Rattle.job_starter_drive.specs.Reported.{endings_in, IsSubsequence, nothing, passed_over, taken, RecordsEach, RecordsEachButNewest}
 use Rattle.job_starter_drive.proofs.Turns.{launched-older, added-older}
 
--- behind others they are in the same order, too
+-- after others they are in the same order, too
 behind-others : (met newer own : List Record) → IsSubsequence met own → IsSubsequence met (newer ++ own)
 behind-others met [] own is = is
 behind-others met (entry ∷ newer) own is = passed_over (behind-others met newer own is)

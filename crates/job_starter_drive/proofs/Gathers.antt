@@ -1,4 +1,4 @@
--- Endings that are gathered behind one that is owed.
+-- Endings that are gathered after one that is owed.
 use Rattle.std.proofs.Common.{arith, ◌≡◌, ◌<◌, Bool, true, false, not, ◌&&◌, List, [], ◌∷◌, ◌++◌, length, refl, sym, ap, ◌∙◌, subst}
 use Rattle.std.proofs.lemmas.Bool.{and_parts, and_from, not-true}
 use Rattle.node_machine.specs.declared.Key.{Key}

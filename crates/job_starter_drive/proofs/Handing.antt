@@ -40,7 +40,7 @@ commands_for plan records (key ∷ keys) =
 abbrev keys_of : Standing → List Key
 keys_of (At past call_log keys owed) = keys
 
--- launches of a round, of which the first stand in the records: the commands of the others come behind theirs
+-- launches of a round, of which the first stand in the records: the commands of the others come after theirs
 module _ (plan : Plan) (now : List Record) (lawful : is_lawful plan now ≡ true) where
   launched-commands : (past : List Record) (keys : List Key) → launched past keys ≡ now → commands_in plan now ≡ commands_in plan past ++ commands_for plan now keys
   launched-commands past [] is = ap (commands_in plan) (sym is) ∙ sym (append-nil (commands_in plan past))

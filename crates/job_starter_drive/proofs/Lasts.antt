@@ -1,4 +1,4 @@
--- What is left behind a call is what a life of the records that it kept leaves.
+-- What is left after a call is what a life of the records that it kept leaves.
 use Rattle.std.proofs.Common.{◌≡◌, ◌∙◌, ℕ, true, List, [], ◌∷◌, ◌++◌, length, Option, Some, None, inl, inr, sym, ap, subst, arith, length-append}
 use Rattle.run_plan.specs.Plan.{Plan}
 use Rattle.node_machine.specs.declared.Record.{Record}
@@ -20,7 +20,7 @@ one-part held kept (newest ∷ newer, is) back =
     let more = ap length back.1 ∙ length-append back.0 kept in
     absurd (omega (arith, less, more))
 
--- what may be held behind the call, when none of the kept records is missing: these, or some more
+-- what may be held after the call, when none of the kept records is missing: these, or some more
 kept-or-more : (fault : Option DriveFault) (held kept : List Record) → MayHold fault kept held → IsOlderPart kept held → IsMore kept held
 kept-or-more None held kept part all = record { added = []; few = omega arith; is = sym (one-part held kept part all) }
 kept-or-more (Some fault) held kept (inl part) all = record { added = []; few = omega arith; is = sym (one-part held kept part all) }

@@ -68,7 +68,7 @@ turn-still plan past after last going step abort_free =
       stays = λ was. abort_free ∙ was;
     }
 
--- so it is where the starter was asked for a halt behind it
+-- so it is where the starter was asked for a halt after it
 pub turn-asked : (may : Telling) (plan : Plan) (past after : List Record) (last later_log : List Call) → AsksForHalt may last later_log → IsTurn plan past after last → IsTurn plan past after later_log
 turn-asked may plan past after last later_log asked turn = record {
   going = turn.going;

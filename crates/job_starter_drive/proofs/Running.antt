@@ -28,7 +28,7 @@ without-reverse key xs = sym (without-onto key xs [])
 among-more : (key x : Key) (before : List Key) → is_same key x ≡ false → is_among key before ≡ false → (is_same key x || is_among key before) ≡ false
 among-more key x before other none = (λ j. other j || is_among key before) ∙ none
 
--- not among the first of these keys, nor the one behind them
+-- not among the first of these keys, nor the one after them
 pub none-further : (key : Key) (keys : List Key) (place : ℕ) (d : Key) → place < length keys → is_among key (reverse (take place keys)) ≡ false
     → is_same key (get_or keys place d) ≡ false → is_among key (reverse (take (place + 1) keys)) ≡ false
 none-further key keys place d lt none other =
@@ -78,7 +78,7 @@ among-behind : (key : Key) (b : Bool) (keys : List Key) → is_among key keys �
 among-behind key true keys is = refl
 among-behind key false keys is = is
 
--- what stood there is there still, with more before it
+-- what was there is there still, with more before it
 among-onto : (key : Key) (xs ys : List Key) → is_among key ys ≡ true → is_among key (reverse_aux xs ys) ≡ true
 among-onto key [] ys is = is
 among-onto key (x ∷ xs) ys is = among-onto key xs (x ∷ ys) (among-behind key (is_same key x) ys is)

@@ -23,7 +23,7 @@ use Rattle.job_starter_drive.specs.Drives.{most_at_once, Standing, At, at_rest, 
 use Rattle.job_starter_drive.proofs.Phases.{noop-quiet}
 use Rattle.job_starter_drive.proofs.Walks.{no_child}
 
--- where a run stands but for its calls
+-- where a run is but for its calls
 data Place : Type 0 where
   Here : List Record → List Key → List (Key × Outcome) → Place
 
@@ -105,7 +105,7 @@ module _ (limits : Limits) (plan : Plan) (table : List Entry) where
       ap (λ (l : Key). Here past [] ((l, scripted_outcome plan table l) ∷ [])) k
   next-one _ _ _ next_settles next_settles = refl
 
-  -- nothing comes behind the choice to finish
+  -- nothing comes after the choice to finish
   next-none : (past : List Record) (to : Place) (verdict : ℕ) → IsChoice limits plan past (choices.Finish verdict) → Next (Here past [] []) to → ⊥
   next-none past _ verdict chosen (next_launches {keys = keys} round) =
       let first = first-of-round past keys round in

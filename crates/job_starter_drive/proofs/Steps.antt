@@ -117,7 +117,7 @@ refused-since disks refused old mid manager fault keeps counts r = record {
   cause = r.cause;
 }
 
--- however the manager stood earlier, where nothing was refused since
+-- however the manager was earlier, where nothing was refused since
 pub fault-before : {D : Type 0} (disks : Ghosts D) (earlier before now : ℕ) (old mid manager : Managed D) (refused : List Record) (fault : DriveFault) → before ≡ earlier
     → KeepsDisk disks old.journal mid.journal → CountsOn old mid
     → IsDriveFault disks before now mid manager refused fault → IsDriveFault disks earlier now old manager refused fault
@@ -164,7 +164,7 @@ noop-ends node phase = go (is_noop_job node.course phase)
     go true = refl
     go false = refl
 
--- nothing is left behind all
+-- nothing is left after all
 pub drop-all : (keys : List Key) (place : ℕ) → place ≡ length keys → drop place keys ≡ []
 drop-all [] zero is = refl
 drop-all [] (suc place) is = refl

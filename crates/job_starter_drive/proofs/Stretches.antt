@@ -1,4 +1,4 @@
--- Stretches of a run, one behind another.
+-- Stretches of a run, one after another.
 use Rattle.std.proofs.Common.{inl, inr, arith, ◌≡◌, ℕ, ◌≤◌, ◌<◌, true, false, Bool, List, [], ◌∷◌, length, Option, Some, None, refl, sym, ap, ◌∙◌, subst}
 use Rattle.std.proofs.lemmas.Bool.{false≢true}
 use Rattle.event_journal_log.specs.declared.disk.Disk.{Ghosts}
@@ -55,7 +55,7 @@ module _ {D : Type 0} (disks : Ghosts D) where
 
   module _ (limits : Limits) (plan : Plan) (may may' may'' : Telling) (before between now : ℕ) (old mid new : Managed D) (from via : Standing)
       (first : Stretch limits plan may may' before between old mid from via) where
-    -- one stretch behind another
+    -- one stretch after another
     pub stretch-then : (to : Standing) → Stretch limits plan may' may'' between now mid new via to → Stretch limits plan may may'' before now old new from to
     stretch-then to second = record {
       plan_is = second.plan_is;

@@ -89,7 +89,7 @@ end-kept plan past key outcome on = λ j. if on j then [] else without key (outs
 end-empty : (plan : Plan) (past : List Record) (key : Key) (outcome : Outcome) → stops plan past (End key outcome) ≡ true → outstanding plan (End key outcome ∷ past) ≡ []
 end-empty plan past key outcome stop = λ j. if stop j then [] else without key (outstanding plan past)
 
--- an ending behind an abort is none of an ordinary node, so that the run stays aborted
+-- an ending after an abort is none of an ordinary node, so that the run stays aborted
 end-stays : (plan : Plan) (past : List Record) (key : Key) (outcome : Outcome) → is_lawful plan past ≡ true → is_among key (outstanding plan past) ≡ true
     → is_aborted plan past ≡ true → is_aborted plan (End key outcome ∷ past) ≡ true
 unfolding is_aborted

@@ -1,4 +1,4 @@
--- Steps of a run, one behind another.
+-- Steps of a run, one after another.
 use Rattle.std.proofs.Common.{◌≡◌, ℕ, Bool, true, false, List, [], ◌∷◌, Some, refl, sym, ap, ◌∙◌, subst}
 use Rattle.std.proofs.lemmas.Bool.{false≢true}
 use Rattle.node_machine.specs.declared.Key.{Key}
@@ -45,7 +45,7 @@ module _ (limits : Limits) (plan : Plan) (may may' : Telling) (t : AllowsNoMore 
   step-fewer _ _ (see_halt may_halt unhalted) = see_halt (t.2 may_halt) unhalted
   step-fewer _ _ (kill_child ran free) = kill_child ran free
 
-  -- steps behind one another
+  -- steps after one another
   pub goes-then : (from between to : Standing) → Goes limits plan may from between → Goes limits plan may' between to → Goes limits plan may from to
   goes-then from between _ first no_step = first
   goes-then from between to first (one_more {between = last} rest step) =

@@ -32,7 +32,7 @@ or-true : (a b : Bool) → b ≡ true → (a || b) ≡ true
 or-true true b is = refl
 or-true false b is = is
 
--- behind launches they are outstanding, and what was is so still
+-- after launches they are outstanding, and what was is so still
 pub launched-outstanding : (plan : Plan) (past : List Record) (keys : List Key) → outstanding plan (launched past keys) ≡ with_launched keys (outstanding plan past)
 launched-outstanding plan past [] = refl
 launched-outstanding plan past (key ∷ keys) = launched-outstanding plan (launch_of past key ∷ past) keys
@@ -88,7 +88,7 @@ not-among key keys none = go (is_among key keys) refl
     go false is = is
     go true is = absurd (false≢true (sym none ∙ among-node key keys is))
 
--- what was launched behind keys of other nodes is none of them
+-- what was launched after keys of other nodes is none of them
 apart-with : (keys others : List Key) → AreApart (with_launched keys others)
     → AreApart others × ((key : Key) → is_among key others ≡ true → is_among key keys ≡ false)
 apart-with [] others apart = (apart, λ key among. refl)
@@ -148,7 +148,7 @@ ends-more plan keys (end ∷ owed) key outcome ends among possible fits =
     (ends.0, ends.1, ends.2, ends-more plan (without end.0 keys) owed key outcome ends.3 among possible fits)
 
 module _ (plan : Plan) (past : List Record) where
-  -- behind the launches of a round
+  -- after the launches of a round
   pub way-launched : (call_log : List Call) (keys : List Key) → AreInStep plan past call_log → length keys ≤ most_at_once → AreUnderWay plan (launched past keys) call_log keys []
   way-launched call_log keys step few = record {
     same = launched-outstanding plan past keys ∙ ap (with_launched keys) (sym step.same);
@@ -182,7 +182,7 @@ module _ (plan : Plan) (past : List Record) where
     fits : may_end_with (node_at plan key.node).course key.phase outcome ≡ true
     fits = child-ends (node_at plan key.node) key.phase outcome (children-start plan (running call_log) key way.children ran)
 
-    -- behind endings that are owed one more child was reported to have ended
+    -- after endings that are owed one more child was reported to have ended
     pub way-gathered : length owed < most_at_once → AreUnderWay plan past (calls.Ended key outcome ∷ call_log) [] (owed ++ (key, outcome) ∷ [])
     way-gathered few = record {
       same = ap (λ (l : List Key). without_all l (outstanding plan past)) (ended-more owed (key, outcome))

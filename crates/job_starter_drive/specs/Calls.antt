@@ -74,7 +74,7 @@ pub record IsReportedEnding (may : Telling) (call_log later_log : List Call) (en
 abbrev pub MayRun : Telling → List Call → Key → Type 0
 MayRun may call_log key = (outcome : Outcome) × (outcome ≢ NoStart) × may.may_be call_log key outcome
 
--- the key that stands last: of the children that run, the one that was started first
+-- the key that is last: of the children that run, the one that was started first
 abbrev pub oldest : List Key → Option Key
 oldest [] = None
 oldest (key ∷ []) = Some key

@@ -45,7 +45,7 @@ pub record AreInStep (plan : Plan) (past : List Record) (call_log : List Call) :
   pub same : running call_log ≡ outstanding plan past
   pub children : IsTrue (list_all (λ key. starts_child (node_at plan key.node) key.phase) (outstanding plan past))
 
--- keys with those that were launched behind them, the first of these first
+-- keys with those that were launched after them, the first of these first
 abbrev pub with_launched : List Key → List Key → List Key
 with_launched [] keys = keys
 with_launched (key ∷ launched) keys = with_launched launched (key ∷ keys)
@@ -85,14 +85,14 @@ pub record IsSpawned (plan : Plan) (records : List Record) (key : Key) (answer :
   pub entry : later_log ≡ calls.Started key (snapshot_of command) answer ∷ call_log
 
 -- A round: phases that are launched together, each what is chosen once those before it are launched; fewer than may be only where
--- nothing more may be launched behind them.
+-- nothing more may be launched after them.
 pub record IsRoundOf (limits : Limits) (plan : Plan) (past : List Record) (keys : List Key) : Type 0 where
   pub some : 0 < length keys
   pub few : length keys ≤ most_at_once
   pub chosen : AreChosen limits plan past keys
   pub full : length keys < most_at_once → NothingToStart limits plan (launched past keys)
 
--- Where a run stands: its records, and the calls that its starter answered; of a round the phases that are launched and not yet handed
+-- Where a run is: its records, and the calls that its starter answered; of a round the phases that are launched and not yet handed
 -- over; and the endings that are known and not yet recorded.
 pub data Standing : Type 0 where
   At : List Record → List Call → List Key → List (Key × Outcome) → Standing
@@ -207,7 +207,7 @@ AbortsAtLast plan (newest ∷ past) = IsFalse (is_aborted plan past) × IsTrue (
 abbrev pub IsLaunched : Limits → Plan → List Record → List Record → List Call → Type 0
 IsLaunched limits plan before past call_log = IsHeld limits plan past call_log ⊎ (IsFalse (is_aborted plan before) × AbortsAtLast plan past)
 
--- Behind a crash: any number of steps. Of a round phases may be launched and not handed over, and endings known and not recorded.
+-- After a crash: any number of steps. Of a round phases may be launched and not handed over, and endings known and not recorded.
 pub record IsHaltedFrom (limits : Limits) (plan : Plan) (may : Telling) (from : Standing) (after : List Record) (last : List Call) : Type 0 where
   pub keys : List Key
   pub owed : List (Key × Outcome)

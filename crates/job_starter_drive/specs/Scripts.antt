@@ -16,7 +16,7 @@ scripted_outcome plan table key =
     then outcome_at table (node_at plan key.node).name key.attempt key.phase
     else Exit 0
 
--- What a script tells behind these calls: the table's outcome; and of the children that run the end of the one that was started first, where
+-- What a script tells after these calls: the table's outcome; and of the children that run the end of the one that was started first, where
 -- no places are listed.
 pub record IsInScript (plan : Plan) (table : List Entry) (places : List ℕ) (call_log : List Call) (key : Key) (outcome : Outcome) : Type 0 where
   pub by_table : outcome ≡ scripted_outcome plan table key

@@ -15,7 +15,7 @@ use Rattle.job_starter_drive.specs.Drives.{Standing, At, drive_records, calls_of
 use Rattle.job_starter_drive.specs.Moments.{IsMomentFrom, IsLastFrom, AtAnyMoment, AtTheEnd, StaysAcknowledged, UnlessDiskFault, CountsOn}
 use Rattle.job_starter_drive.specs.Causes.{IsDriveFault}
 
--- A run went on from one standing to another, one step behind another: its manager has the records. A crash at any moment leaves what
+-- A run went on from one standing to another, one step after another: its manager has the records. A crash at any moment leaves what
 -- was recorded until some moment of it, and what it recorded is in every later image. The starter refused nothing.
 pub record IsStretch {D : Type 0} (disks : Ghosts D) (limits : Limits) (plan : Plan) (may may_now : Telling) (before now : ℕ) (old new : Managed D) (from to : Standing) : Type 0 where
   pub plan_is : plan_of new ≡ plan

@@ -275,12 +275,12 @@ fn run<D: Disk + Drop, S: Starter>(
 }
 
 /// Runs a plan to its end: launches what may be launched, waits where nothing can be, and records
-/// each ending as it was reported. At an abort and behind a fault each running child is killed, so that
+/// each ending as it was reported. At an abort and after a fault each running child is killed, so that
 /// none runs when the call returns. Once a halt is seen nothing is launched: what runs is waited for.
 ///
 /// # Errors
 /// Those of `launch_round`; `WaitFault` where the system refuses the question or the wait; and `Halted` where a halt was seen, nothing
-/// runs any more and something was to be launched. What was recorded stays; behind `StartMemory` and `Memory` the last launch is outstanding though no child
+/// runs any more and something was to be launched. What was recorded stays; after `StartMemory` and `Memory` the last launch is outstanding though no child
 /// was started, and the next life launches it again.
 pub fn drive<D: Disk + Drop, S: Starter>(
     alloc: Global,
@@ -293,7 +293,7 @@ pub fn drive<D: Disk + Drop, S: Starter>(
     requires unfinished { IsFalse (is_over (past_of manager.old)) }
     ensures plan { plan_of manager.new ≡ plan_of manager.old }
     ensures limits { limits_of manager.new ≡ limits_of manager.old }
-    // What was recorded and handed over, one step behind another.
+    // What was recorded and handed over, one step after another.
     ensures steps { OnOk result (Drives (limits_of manager.old) (plan_of manager.old) (S.may_return starter.old)
         (past_of manager.old) (S.call_log starter.old) (past_of manager.new) (S.call_log starter.new)) }
     // The run's choice is to finish, with this verdict.
@@ -322,7 +322,7 @@ pub fn drive<D: Disk + Drop, S: Starter>(
         manager.old manager.new (IsMomentOfRun (limits_of manager.old) (plan_of manager.old)
         (S.may_return starter.old) (past_of manager.old) (S.call_log starter.old) (fault_in result)
         (past_of manager.new) (S.call_log starter.new)) }
-    // Behind a fault none of the records is missing in an image.
+    // After a fault none of the records is missing in an image.
     ensures left { OnErr result (AtTheEnd D.Disk manager.old manager.new
         (IsLastMoment (limits_of manager.old) (plan_of manager.old)
         (S.may_return starter.old) (past_of manager.old) (S.call_log starter.old) (fault_in result)

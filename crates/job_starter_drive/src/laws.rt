@@ -27,7 +27,7 @@ ghost use Rattle.job_starter_drive.specs.Scripts.{IsScripted};
 use crate::Starter;
 
 /// What `drive` and `launch_round` ensure of their steps makes them hand over the commands of their
-/// own launches, once each and in their order: all of them, or behind a fault or a crash all but
+/// own launches, once each and in their order: all of them, or after a fault or a crash all but
 /// perhaps the last, which are of one round.
 pub fn hand_over<S: Starter>()
     ensures driven { (limits : Limits) (plan : Plan) (starter : S) (past : List Record)
@@ -63,7 +63,7 @@ pub fn record_endings<S: Starter>()
 {}
 
 /// A run that a manager began or went on with stopped at some moment of `launch_round` or `drive`,
-/// by a crash, or behind a fault: what it recorded, what it handed over and the image that it left make it a life of
+/// by a crash, or after a fault: what it recorded, what it handed over and the image that it left make it a life of
 /// the run, of the bytes that the manager found.
 pub fn stops<S: Starter>()
     ensures life { (limits : Limits) (plan : Plan) (starter : S) (past : List Record)
@@ -72,7 +72,7 @@ pub fn stops<S: Starter>()
         IsHeaderOf plan header → ReadsForInputs plan past found →
         (stop : IsMomentOfRun limits plan (S.may_return starter) (Life ∷ past) call_log fault kept last header image) →
         IsLifeAt past call_log found image stop }
-    // Behind the call: by the records that it kept, an image is one that their life leaves.
+    // After the call: by the records that it kept, an image is one that their life leaves.
     ensures leaves { (limits : Limits) (plan : Plan) (starter : S) (past : List Record)
         (call_log : List Call) (fault : Option DriveFault) (kept : List Record) (last : List Call)
         (header : Header) (image : List ℕ) → IsHeaderOf plan header →

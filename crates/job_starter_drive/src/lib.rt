@@ -52,7 +52,7 @@ pub enum Call {
     HaltSeen,
 }
 
-// Each function that lets a value go calls this; a derived drop stands in each, part by part.
+// Each function that drops a value calls this; a derived drop would be in each, part by part.
 impl Drop for Call {
     fn drop(self) {
         match self {

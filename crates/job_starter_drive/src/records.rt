@@ -1,4 +1,4 @@
-//! What a run does with its manager alone: it looks where the run stands, and records.
+//! What a run does with its manager alone: it looks where the run is, and records.
 ghost use Rattle.std.specs.Prelude.{◌≡◌, [], length, ◌<◌, ◌≤◌, IsTrue, IsFalse, IfOk, IfErr, OnOk};
 ghost use Rattle.run_plan.specs.Plan.{node_at, count_of};
 ghost use Rattle.run_plan_node.specs.Commands.{starts_child};
@@ -74,7 +74,7 @@ pub fn goes_on<D: Disk + Drop>(manager: &Manager<'_, D>)
 
 /// The phases of the next round, at most so many.
 ///
-/// Answers the manager's want of memory.
+/// Answers the manager's lack of memory.
 pub fn next_round<D: Disk + Drop>(
     alloc: Global,
     manager: &Manager<'_, D>,

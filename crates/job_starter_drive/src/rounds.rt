@@ -218,12 +218,12 @@ pub(crate) fn launch_rounds<D: Disk + Drop, S: Starter>(
 }
 
 /// Launches until nothing more is to be launched, an ending that was recorded aborts the run, or a halt is seen, for which the starter
-/// is asked before each round: as many phases together as may be, 64 at most, behind one gate of the journal; each is handed over in
-/// its order; and how those ended that no child ran for is recorded behind one gate, too. It waits for no child, and kills none.
+/// is asked before each round: as many phases together as may be, 64 at most, after one gate of the journal; each is handed over in
+/// its order; and how those ended that no child ran for is recorded after one gate, too. It waits for no child, and kills none.
 ///
 /// # Errors
 /// `StartMemory` where the starter is refused memory for a child, `Memory` where it is refused for a command or for a list: what was
-/// launched is recorded, and that child and those behind it in its round were not started. `Manager` where the manager refuses
+/// launched is recorded, and that child and those after it in its round were not started. `Manager` where the manager refuses
 /// records, for its disk or for memory. What was recorded stays.
 pub fn launch_round<D: Disk + Drop, S: Starter>(
     alloc: Global,
@@ -247,7 +247,7 @@ pub fn launch_round<D: Disk + Drop, S: Starter>(
     // Where something was to be launched, fewer records are to come, but for a halt.
     ensures nearer { (key : Key) → IsChoice (limits_of manager.old) (plan_of manager.old) (past_of manager.old) (Start key)
         → OnOk result (IsNearerEnd (plan_of manager.old) (past_of manager.old) (past_of manager.new) ⊎ IsTrue (is_halt_seen (S.call_log starter.new))) }
-    // Behind a fault: a stretch that this fault cut short.
+    // After a fault: a stretch that this fault cut short.
     ensures cut { IfErr result (WasCutShort D.Disk S.Starter manager.old manager.new starter.old starter.new
         (at_rest (past_of manager.old) (S.call_log starter.old))) }
     ensures waits_for_none { Starts (S.call_log starter.old) (S.call_log starter.new) }

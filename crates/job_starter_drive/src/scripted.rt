@@ -19,10 +19,10 @@ use std::alloc::Global;
 #[derive(Drop)]
 pub struct Script {
     /// For each wait in turn the place, among the running children in the order of their starts, of
-    /// the one that ends; behind the last of them where there are fewer. Behind the end of this list
+    /// the one that ends; after the last of them where there are fewer. After the end of this list
     /// the oldest ends.
     pub places: Vec<usize>,
-    /// The start that is refused for want of memory (A1).
+    /// The start that is refused for lack of memory (A1).
     pub failing_start: Option<u64>,
     /// The wait that is refused (A2).
     pub failing_wait: Option<u64>,
@@ -44,7 +44,7 @@ pub struct ScriptedStarter<'a> {
     ghost unhalted: { IsFalse (is_halt_seen log.calls) },
 }
 
-// Each function that lets a value go calls this; a derived drop stands in each, part by part.
+// Each function that drops a value calls this; a derived drop would be in each, part by part.
 impl Drop for ScriptedStarter<'_> {
     fn drop(self) {
         let ScriptedStarter {

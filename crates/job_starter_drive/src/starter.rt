@@ -13,7 +13,7 @@ use run_plan_node::ChildCommand;
 
 /// Children that are started and waited for, of which whichever ends first is reported.
 ///
-/// Each call that is answered stands in a list, so that contracts can say what was handed over
+/// Each call that is answered is in a list, so that contracts can say what was handed over
 /// and what was answered. A child runs from its start until its ending is reported or it is killed.
 pub trait Starter {
     /// The calls that were answered, the newest first.

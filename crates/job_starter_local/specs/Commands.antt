@@ -10,14 +10,14 @@ use Rattle.run_plan_node.specs.declared.command.ChildCommand.{ChildCommand}
 abbrev pub is_equals : ℕ → Bool
 is_equals byte = byte == 61
 
--- What is said of a variable behind one more setting, `name=value`: its name ends at its first equals sign. A text without one sets
+-- What is said of a variable after one more setting, `name=value`: its name ends at its first equals sign. A text without one sets
 -- nothing.
 abbrev pub variable_after : List ℕ → Option (Option (List ℕ)) → List ℕ → Option (Option (List ℕ))
 variable_after name said setting =
     if nat_lt (position_or_len is_equals setting) (length setting) && bytes_eq (before_first is_equals setting) name
     then Some (Some (after_first is_equals setting)) else said
 
--- what is said of a variable behind all these settings: what the last of it says
+-- what is said of a variable after all these settings: what the last of it says
 abbrev pub variable_behind : List ℕ → Option (Option (List ℕ)) → List (List ℕ) → Option (Option (List ℕ))
 variable_behind name = fold (variable_after name)
 

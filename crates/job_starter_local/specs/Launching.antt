@@ -1,4 +1,4 @@
--- What stands before the commands of jobs (docs/MANUAL.md, "On a cluster: --launcher").
+-- What comes before the commands of jobs (docs/MANUAL.md, "On a cluster: --launcher").
 use Rattle.std.specs.Prelude.{ℕ, Bool, true, false, not, ◌&&◌, ◌==◌, List, ◌∷◌, ◌++◌, Option, Some, None, if◌then◌else◌}
 use Rattle.splices_flat.specs.Paths.{join}
 use Rattle.node_machine.specs.declared.Key.{Key}
@@ -20,7 +20,7 @@ abbrev pub is_spared : Option ℕ → ℕ → Bool
 is_spared None node = false
 is_spared (Some spared) node = spared == node
 
--- A launcher stands before the jobs of all nodes but the spared one, and before no script.
+-- A launcher comes before the jobs of all nodes but the spared one, and before no script.
 abbrev pub has_launcher : Option ℕ → Key → Bool
 has_launcher spared key = is_job key.phase && not (is_spared spared key.node)
 

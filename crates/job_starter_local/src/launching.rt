@@ -1,4 +1,4 @@
-//! What stands before the commands of jobs.
+//! What comes before the commands of jobs.
 
 ghost use Rattle.std.specs.Prelude.{◌≡◌, ◌∷◌, ◌++◌, None, IfOk, OnOk, unwrap_or};
 ghost use Rattle.job_starter_local.specs.Launching.{is_job, is_spared, has_launcher, started_by};
@@ -9,13 +9,13 @@ use run_plan_node::{ChildCommand, NodeSpec};
 use splices_flat::path_in;
 use std::alloc::{AllocError, Global};
 
-/// How children are started: what stands before the commands of jobs, and of which it doesn't, and whether what scripts print is kept.
+/// How children are started: what comes before the commands of jobs, and before which it doesn't, and whether what scripts print is kept.
 #[derive(Debug)]
 pub struct Launcher {
     /// The path of its program; none where jobs are started by themselves.
     pub program: Option<Text>,
 
-    /// The words behind its program.
+    /// The words after its program.
     pub words: Texts,
 
     /// The node whose job is started by itself all the same.
@@ -29,7 +29,7 @@ pub struct Launcher {
     pub keeps_output: bool,
 }
 
-// Each function that lets a value go calls this; a derived drop stands in each, part by part.
+// Each function that drops a value calls this; a derived drop would be in each, part by part.
 impl Drop for Launcher {
     fn drop(self) {
         let Launcher {
@@ -66,7 +66,7 @@ impl Launcher {
         self.program.is_some() && self.launches(key)
     }
 
-    /// Whether it stands before the command of the child of this key: before that of a job, but of the spared
+    /// Whether it comes before the command of the child of this key: before that of a job, but of the spared
     /// node's, and of no script.
     fn launches(&self, key: &Key) -> bool
         ensures { result ≡ has_launcher self.now.spared key.now }
@@ -88,7 +88,7 @@ impl Launcher {
     /// that one. Relative paths are seen from the folder. A launcher is handed what the job asks of a cluster (`NodeSpec::requests`).
     ///
     /// # Errors
-    /// Want of memory.
+    /// Lack of memory.
     pub fn started_by(
         &self,
         alloc: Global,
@@ -123,7 +123,7 @@ fn is_job(phase: Phase) -> bool
     }
 }
 
-/// Adds copies of words behind others.
+/// Adds copies of words after others.
 fn add_words(alloc: Global, words: &mut Texts, others: &[Text]) -> Result<(), AllocError>
     ensures { OnOk result (words.new ≡ words.old ++ others.now) }
 {
@@ -133,7 +133,7 @@ fn add_words(alloc: Global, words: &mut Texts, others: &[Text]) -> Result<(), Al
     Ok(())
 }
 
-/// The words of a launcher, the program behind them, and the words of that.
+/// The words of a launcher, the program after them, and the words of that.
 fn words_behind(
     alloc: Global,
     launcher: &Texts,

@@ -95,8 +95,8 @@ fn longest_pause(children: usize) -> u64
     }
 }
 
-/// The pause behind one of so many microseconds: twice as long up to this one, and longer by a thousandth from there on. So nothing
-/// that ends behind a long silence waits for more than a thousandth of it.
+/// The pause after one of so many microseconds: twice as long up to this one, and longer by a thousandth from there on. So nothing
+/// that ends after a long silence waits for more than a thousandth of it.
 fn next_pause(pause: u64, longest: u64) -> u64
     requires { longest ≤ 50000 }
     ensures { result ≤ 50000 }
@@ -139,7 +139,7 @@ pub struct LocalSystem<
     ghost tied: { reverse (map (λ child. child.key) children.items) ≡ running log.calls },
 }
 
-// Each function that lets a value go calls this; a derived drop stands in each, part by part.
+// Each function that drops a value calls this; a derived drop would be in each, part by part.
 impl<R: Processes + Files<File = File> + Clock + Drop, W: ChildWatcher + Drop> Drop
     for LocalSystem<'_, R, W> {
     fn drop(self) {
@@ -427,7 +427,7 @@ impl<'a, R: Processes + Files<File = File> + Clock + Drop, W: ChildWatcher + Dro
     /// it, or with a file for what a script prints.
     ///
     /// # Errors
-    /// Want of memory.
+    /// Lack of memory.
     fn command_of(
         &self,
         name: &str,

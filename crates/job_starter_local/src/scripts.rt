@@ -16,7 +16,7 @@ use std::rt::Files;
 /// How many bytes are kept of what a script prints: its end.
 const MOST_BYTES: u64 = 1 << 16;
 
-/// Adds the name of a node as a part of a file's name: a slash stands as `%2F`, and a percent sign as `%25`.
+/// Adds the name of a node as a part of a file's name: a slash is written as `%2F`, and a percent sign as `%25`.
 fn push_name(text: &mut String, name: &str) -> Result<(), AllocError> {
     for character in name.chars() {
         match character {
@@ -37,7 +37,7 @@ fn folder_of(alloc: Global, dag: &str) -> Result<String, AllocError> {
 /// phase and the attempt.
 ///
 /// # Errors
-/// Want of memory.
+/// Lack of memory.
 fn kept_path(alloc: Global, dag: &str, name: &str, key: &Key) -> Result<String, AllocError> {
     let mut path = folder_of(alloc, dag)?;
     path.push('/')?;
@@ -82,7 +82,7 @@ fn printing_to(
 /// prints is dropped.
 ///
 /// # Errors
-/// Want of memory.
+/// Lack of memory.
 pub(crate) fn kept_command<R: Files<File = File>>(
     alloc: Global,
     rt: &R,

@@ -153,7 +153,7 @@ fn set_words(command: &mut Command, words: &[Text]) -> Result<(), AllocError>
 /// its environment over what it inherits of its round, which is over this process's. The child's streams are not set.
 ///
 /// # Errors
-/// Want of memory.
+/// Lack of memory.
 pub fn command_for(
     alloc: Global,
     folder: &str,

@@ -4,7 +4,7 @@ ghost use Rattle.sched_core.specs.Example.{two_nodes};
 ghost use Rattle.recovery.specs.RecordLives.{AreLives};
 ghost use Rattle.recovery.specs.Example.{its_lives};
 
-/// A run of two lives, of which the first ended in a crash behind a launch.
+/// A run of two lives, of which the first ended in a crash after a launch.
 pub fn examples()
     ensures two_lives { AreLives two_nodes its_lives }
 {}

@@ -65,7 +65,7 @@ pub fn lives()
         command ≡ command_by plan table key.node key.attempt key.phase }
 {}
 
-/// What the calls of a manager ensure, behind a fault as at their end, makes a life of the run, of
+/// What the calls of a manager ensure, after a fault as at their end, makes a life of the run, of
 /// the bytes that it found: it began on a place that reads as Fresh, or it recovered, and then its
 /// calls added records of its own.
 pub fn one_life<D: Disk + Drop>()
@@ -134,7 +134,7 @@ pub fn two_runs()
 {}
 
 /// The bytes of a journal. A new journal's bytes read as its header and no records. What reads as a journal reads so
-/// whatever stands behind its last closed gate, and with all of the records that were written behind that gate once it is
+/// whatever comes after its last closed gate, and with all of the records that were written after that gate once it is
 /// open. A record that fits its slot is read from it.
 pub fn journal_bytes()
     ensures begins { (header : Header) → header.used < 2 ^ 16 → header.next < 2 ^ 16 → length header.digest ≡ 32 →

@@ -8,7 +8,7 @@ ghost use Rattle.sched_core.specs.Lives.{IsRunBy};
 ghost use Rattle.recovery_manager.specs.Chain.{AreManagerLives};
 ghost use Rattle.recovery_manager.specs.Example.{one_node, lives_on_bytes, third_held, all_good};
 
-/// A run of three lives, by the bytes that each left: the first was cut short behind a launch, and
+/// A run of three lives, by the bytes that each left: the first was cut short after a launch, and
 /// the second while an ending was recorded. One of them handed its command over, and the run
 /// finished without abort.
 pub fn examples()

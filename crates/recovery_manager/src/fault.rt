@@ -9,7 +9,7 @@ use thiserror::Error;
 /// Why a call of a manager was refused.
 #[derive(Clone, Copy, Debug, PartialEq, Eq, Error)]
 pub enum ManagerFault {
-    /// The journal refused. Behind a writing call the record may be on the disk or not; the core
+    /// The journal refused. After a writing call the record may be on the disk or not; the core
     /// is unchanged. In `write_rescue` it was the disk of the rescue file.
     Journal(JournalFault),
     /// The record in the slot of this number, from 0, may not follow those before it.

@@ -65,7 +65,7 @@ fn lists_of(
 /// one.
 ///
 /// # Errors
-/// Want of memory.
+/// Lack of memory.
 pub(crate) fn again_of(
     alloc: Global,
     plan: &Plan,

@@ -222,7 +222,7 @@ fn no_round(alloc: Global, top: &str) -> Result<Answer, RunFault>
 /// `Place::trusts` has it), a folder that has the name `.journal.old` (`FileRefused` with it), another manager that runs the DAG
 /// (`FileRefused` with the file that it has locked); then those of `answer_here` for the status; then a number in the journal's
 /// header that no rescue file has (`NotThere`), and a folder that the system refuses to list (`FileRefused`). Then a rescue file or
-/// a journal that the system refuses (`FileRefused`). Want of memory may come before any.
+/// a journal that the system refuses (`FileRefused`). Lack of memory may come before any.
 pub fn redo_here<R: Files<File = File> + Clock + AllocGlobal + Copy + Drop, F: Folder>(
     rt: R,
     folder: &F,

@@ -37,7 +37,7 @@ fn answer_of<R: Files<File = File> + AllocGlobal>(
 /// # Errors
 /// As `why_here`: in this order a journal that the system refuses to read, a number of a rescue file above 999 in its
 /// header, a rescue file that the system refuses to read; then a log that may be another user's (`FileRefused`); then
-/// those of `status_of`, a fault in a line of the rescue file with its path. Want of memory may come before any.
+/// those of `status_of`, a fault in a line of the rescue file with its path. Lack of memory may come before any.
 pub fn page_here<R: Files<File = File> + AllocGlobal, F: Folder>(
     rt: &R,
     folder: &F,

@@ -61,7 +61,7 @@ fn is_chosen(counted: Counted<'_>) -> bool {
 /// The rows of the limits of a graph that somebody has chosen, with how many of the phases that each counts ran at once.
 ///
 /// # Errors
-/// Want of memory.
+/// Lack of memory.
 pub(crate) fn rows_of_limits<'a>(
     alloc: Global,
     graph: &Graph,

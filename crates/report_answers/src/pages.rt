@@ -87,7 +87,7 @@ fn digest_of(alloc: Global, core: &Core<'_>) -> Result<String, AllocError>
 /// The page of a run, of which this is the log.
 ///
 /// # Errors
-/// Want of memory, and nothing else.
+/// Lack of memory, and nothing else.
 pub(crate) fn page_of<R: Files<File = File> + AllocGlobal>(
     rt: &R,
     place: &Place<'_>,

@@ -30,12 +30,7 @@ fn state_of(status: Status) -> NodeState
 }
 
 /// The row of a node, of which a log may say something, where nodes are folded by these classes.
-fn row_of<'a>(
-    core: &Core<'a>,
-    classes: &[u32],
-    node: u32,
-    seen: Option<&Seen<'a>>,
-) -> Row<'a>
+fn row_of<'a>(core: &Core<'a>, classes: &[u32], node: u32, seen: Option<&Seen<'a>>) -> Row<'a>
     requires { node ≤ count_of core.now.plan }
     ensures { IsRowOf core.now.plan core.now.past (slice_index classes.now) node result }
 {

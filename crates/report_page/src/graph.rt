@@ -185,7 +185,7 @@ fn draw_all_texts<'a>(
 /// more those share one that are of one shape, or have the same level.
 ///
 /// # Errors
-/// Want of memory.
+/// Lack of memory.
 pub(crate) fn graph_drawing<'a>(
     alloc: Global,
     rows: &[Row<'a>],

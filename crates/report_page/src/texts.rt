@@ -180,7 +180,7 @@ fn text_with(
 /// a row for each node in plan order.
 ///
 /// # Errors
-/// Want of memory, and nothing else.
+/// Lack of memory, and nothing else.
 pub fn page_text(alloc: Global, page: &Page<'_>) -> Result<String, AllocError>
     ensures { IfOk result (λ text. IsPageText page.now (string_bytes text)) }
 {

@@ -202,7 +202,7 @@ fn draw_rows<'a>(
 /// The timeline of these phases. Of very many only the longest have a row.
 ///
 /// # Errors
-/// Want of memory.
+/// Lack of memory.
 pub(crate) fn timeline_drawing<'a>(
     alloc: Global,
     phases: &[PhaseBar<'a>],

@@ -57,7 +57,7 @@ module _ (h t u : ℕ) where
 pub not_three : (digits : List ℕ) → length digits ≢ 3 → IsFound three_digits digits None
 not_three digits other number is e = other (sym (ap (λ (ds : List ℕ). length ds) e))
 
--- What stands behind a front.
+-- What comes after a front.
 pub behind : (front name : List ℕ) (spelled : ℕ → List ℕ) (x : Bor (List ℕ)) (o : Option ℕ) → (pointwise nat_eq (take (length front) name) front ≡ true) × (x.now ≡ drop (length front) name) × (length x.now + length front ≡ length name)
     → IsFound spelled x.now o → IsFound (λ number. front ++ spelled number) name o
 behind front name spelled x None is none = λ number in' e.

@@ -107,7 +107,7 @@ pub line_ordinary : (dag : Dag) (number : ℕ) (bytes : List ℕ) (node : ℕ) �
 unfolding rescue_line_at
 line_ordinary dag number bytes node e = said_ordinary dag number (rescue_name_at number bytes) node e
 
--- What stands behind the first word.
+-- What comes after the first word.
 pub no_keyword : (keyword : PlacedText) (ws : List PlacedText) → is_keyword (codes "DONE") keyword ≡ false → None ≡ name_behind keyword ws
 unfolding name_behind
 no_keyword keyword ws is = sym (rw is refl)

@@ -35,7 +35,7 @@ good x = Ok x
 given : {A : Type 0} (x y : A) → good x ≡ good y → x ≡ y
 given x y is = cc
 
--- A file and those in it, at most so many in one another, with not too many nodes behind those of before.
+-- A file and those in it, at most so many in one another, with not too many nodes after those of before.
 abbrev IsTree : ℕ → ℕ → Tree → Type 0
 IsTree zero nodes tree = ⊥
 IsTree (suc left) nodes tree = IsLawful tree.file tree.inner × AreLawful left tree.inner

@@ -12,7 +12,7 @@ use Rattle.dag_reader.specs.Words.{is_blank, words, words_of_parts}
 use Rattle.dag_reader.proofs.LineTexts.{IsText}
 use Rattle.dag_reader.proofs.Scan.{blank_is_ascii}
 
--- Text before and behind an ASCII byte.
+-- Text before and after an ASCII byte.
 front_of : (xs ys : List ℕ) → take (length xs) (xs ++ ys) ≡ xs
 front_of [] ys = refl
 front_of (x ∷ xs) ys = ap (λ (zs : List ℕ). x ∷ zs) (front_of xs ys)

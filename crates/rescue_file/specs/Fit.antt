@@ -7,7 +7,7 @@ use Rattle.dag_reader.specs.Words.{is_blank}
 use Rattle.splices_flat.specs.Dag.{Dag}
 use Rattle.rescue_file.specs.Written.{ordinary_names}
 
--- A name that is a word: not empty, UTF-8, with no blank and no control character; and short enough for a line, behind
+-- A name that is a word: not empty, UTF-8, with no blank and no control character; and short enough for a line, after
 -- DONE and a blank.
 pub record IsFit (name : List ℕ) : Type 0 where
   pub some : 0 < length name

@@ -19,7 +19,7 @@ abbrev pub IsFound : (ℕ → List ℕ) → List ℕ → Option ℕ → Type 0
 IsFound spelled bytes None = (number : ℕ) → IsFileNumber number → spelled number ≢ bytes
 IsFound spelled bytes (Some number) = IsFileNumber number × (spelled number ≡ bytes)
 
--- The highest number of a rescue file that stands among the names, or 0 where none stands there.
+-- The highest number of a rescue file that is among the names, or 0 where none is there.
 pub record IsHighest (names : List (List ℕ)) (top : List ℕ) (highest : ℕ) : Type 0 where
   pub within : highest ≤ 999
   pub stands : 0 < highest → Contains names (rescue_name_of top highest)

@@ -15,7 +15,7 @@ use Rattle.dag_graph.specs.Graph.{names_of}
 use Rattle.rescue_file.specs.declared.fault.RescueFault.{RescueFault}
 use Rattle.rescue_file.specs.declared.fault.RescueFault.TheVariants.{BadLine, UnknownNode, FinalDone, Memory}
 
--- the name behind the keyword DONE, if it is the last word
+-- the name after the keyword DONE, if it is the last word
 abbrev pub last_name : List PlacedText → Option (List ℕ)
 last_name [] = None
 last_name (name ∷ []) = Some name.text
@@ -73,7 +73,7 @@ rescue_lines_at dag number (line ∷ more) = do
 abbrev pub rescued_of : Dag → List ℕ → Result (List ℕ) RescueFault
 rescued_of dag bytes = rescue_lines_at dag 1 (lines bytes)
 
--- The fault that a refusal tells; for want of memory it tells none.
+-- The fault that a refusal tells; for lack of memory it tells none.
 abbrev pub told_fault : RescueFault → Option RescueFault
 told_fault Memory = None
 told_fault fault = Some fault

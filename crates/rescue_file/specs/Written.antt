@@ -7,7 +7,7 @@ use Rattle.splices_flat.specs.Dag.{Dag}
 abbrev pub ordinary_names : Dag → List (List ℕ)
 ordinary_names dag = map (λ node. node.name) dag.nodes
 
--- those things of a list at whose places a mark stands
+-- those things of a list at whose places a mark is
 abbrev pub marked : {A : Type 0} → List A → List Bool → List A
 marked [] marks = []
 marked (x ∷ xs) [] = []

@@ -10,7 +10,7 @@ use thiserror::Error;
 /// Why a rescue file is not read, written or named.
 ///
 /// It is displayed as its code and its name: who knows the file's path adds it, and the number of
-/// the line behind a colon, as in `E2 UnknownNode x.dag.rescue001:7`.
+/// the line after a colon, as in `E2 UnknownNode x.dag.rescue001:7`.
 #[derive(Clone, Copy, Debug, PartialEq, Eq, Error)]
 pub enum RescueFault {
     /// The line of this number, from 1, is no comment, holds words, and is not `DONE` and a name;

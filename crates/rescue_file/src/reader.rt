@@ -17,7 +17,7 @@ use dag_reader::{LineReader, Token, line_text, split_line};
 use std::alloc::Global;
 
 /// The numbers of the nodes that a rescue file marks as done, from 0, in the order of its lines. A
-/// node that stands there twice comes twice, which does no harm.
+/// node that is there twice comes twice, which does no harm.
 ///
 /// Each line is `DONE` and the full name of an ordinary node, is a comment, or holds no word. The
 /// keyword is in any case of ASCII letters. Lines, words and comments are those of a DAG file. Of
@@ -36,7 +36,7 @@ pub fn read_rescue(alloc: Global, bytes: &[u8], graph: &Graph) -> Result<Vec<u32
     ensures only { (nodes : List ℕ) → SayNodes graph.now.dag 1 (lines bytes.now) nodes
         → Gives (λ found. found.items) result (Ok nodes) }
 
-    // A fault other than want of memory is that of the first bad line.
+    // A fault other than lack of memory is that of the first bad line.
     ensures fault { IfErr result
         (λ fault. (fault ≡ Memory) ⊎ IsFirstBadName graph.now.dag (lines bytes.now) fault) }
 
@@ -103,7 +103,7 @@ fn read_name(number: usize, bytes: &[u8]) -> Result<Option<&str>, RescueFault>
     }
 }
 
-/// The name behind this keyword, if it is `DONE` and one word is left of the line.
+/// The name after this keyword, if it is `DONE` and one word is left of the line.
 fn done_name<'a>(keyword: &Token<'a>, line: &mut LineReader<'a>) -> Option<&'a str>
     ensures { option_map (λ name. name.now) result
         ≡ name_behind (word_of keyword.now) (left_of line.old).words }

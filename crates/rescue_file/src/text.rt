@@ -14,7 +14,7 @@ use std::alloc::{AllocError, Global};
 /// The text of the rescue file of a graph, with a mark for each ordinary node, in plan order: whether
 /// it is done. HTCondor's manual tells of such files in the chapter "The rescue DAG".
 ///
-/// Two comments tell how many ordinary nodes there are and how many of them are marked. Behind an
+/// Two comments tell how many ordinary nodes there are and how many of them are marked. After an
 /// empty line each marked node has a line: `DONE` and its full name. A DAG that is started again
 /// with this file does not run these nodes. The FINAL node, which runs each time, is never there.
 ///
@@ -27,7 +27,7 @@ pub fn rescue_text(alloc: Global, graph: &Graph, marks: &[bool]) -> Result<Strin
     ensures text { IfOk result (λ text. string_bytes text
         ≡ rescue_text_of (ordinary_names graph.now.dag) marks.now) }
 
-    // It is refused for want of memory alone.
+    // It is refused for lack of memory alone.
     ensures err { IfErr result (λ fault. fault ≡ Memory) }
 {
     Ok(text_of_nodes(alloc, graph.flat().nodes(), marks)?)

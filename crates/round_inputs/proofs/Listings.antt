@@ -13,12 +13,12 @@ use Rattle.round_inputs.specs.Begun.{begun_file}
 abbrev pub lent_file : Bor (String Global) × Bor (Vec ℕ Global) → List ℕ × List ℕ
 lent_file file = (string_bytes file.0.now, file.1.now.items)
 
--- one map behind another
+-- one map after another
 pub maps : {A B C : Type 0} (g : B → C) (f : A → B) (xs : List A) → map g (map f xs) ≡ map (λ x. g (f x)) xs
 maps g f [] = refl
 maps g f (x ∷ xs) = ap (λ t. g (f x) ∷ t) (maps g f xs)
 
--- what is made of each of a list, behind a map
+-- what is made of each of a list, after a map
 flat_maps : {A B C : Type 0} (f : B → List C) (g : A → B) (xs : List A) → flat_map (λ x. f (g x)) xs ≡ flat_map f (map g xs)
 flat_maps f g [] = refl
 flat_maps f g (x ∷ xs) = ap (λ t. f (g x) ++ t) (flat_maps f g xs)

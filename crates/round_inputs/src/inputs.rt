@@ -24,7 +24,7 @@ pub struct Listed {
 /// What a round was begun with: the digest of its plan, and each file that this is a digest of.
 #[derive(Drop)]
 pub struct Inputs {
-    /// The digest, as it stands in the header of the round's journal.
+    /// The digest, as it is in the header of the round's journal.
     pub digest: [u8; 32],
     /// The files in the order of the bytes of their paths, and then the rescue file that the round read.
     pub files: Vec<Listed>,

@@ -40,7 +40,7 @@ pub fn begun_path(alloc: Global, top: &str) -> Result<Text, AllocError>
     Text::joined(alloc, top, ".begun")
 }
 
-/// The disk of the file of this path, which is written under its name with `.new` behind it, and named once it is
+/// The disk of the file of this path, which is written under its name with `.new` after it, and named once it is
 /// whole.
 fn drafted_disk<R: Files<File = File> + AllocGlobal + Copy + Drop>(
     rt: R,
@@ -106,7 +106,7 @@ fn inputs_at(
     }
 }
 
-/// Writes what a round is begun with beside its DAG file, in place of what stands there of an earlier one: the
+/// Writes what a round is begun with beside its DAG file, in place of what is there of an earlier one: the
 /// digest of its plan, the files that this is a digest of, and the rescue file of this number, if the round
 /// read one. The text is written under another name, synced and renamed, and the folder synced.
 ///

@@ -41,7 +41,7 @@ fn sum_in(digits: &str) -> Option<[u8; 32]> {
     <[u8; 32] as FromHex>::from_hex(digits).ok()
 }
 
-/// The character that stands behind a backslash for another one.
+/// The character that comes after a backslash for another one.
 fn unescaped(c: char) -> char {
     match c {
         'n' => '\n',
@@ -67,7 +67,7 @@ fn name_in(alloc: Global, written: &str) -> Result<Text, AllocError> {
     Text::new(alloc, name.as_str())
 }
 
-/// The path of a line, of which this stands behind the sum.
+/// The path of a line, of which this comes after the sum.
 fn path_in(alloc: Global, written: &str, has_mark: bool) -> Result<Text, AllocError> {
     if has_mark {
         return name_in(alloc, written);

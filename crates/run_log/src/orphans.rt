@@ -427,7 +427,7 @@ fn tell_all<R: Clock + AllocGlobal>(
     Ok(())
 }
 
-/// The pause behind one of so many microseconds.
+/// The pause after one of so many microseconds.
 fn next_pause(pause: u64) -> u64 {
     pause.saturating_mul(2).min(LONGEST_PAUSE)
 }
@@ -479,7 +479,7 @@ impl Orphans {
     /// The lines of those that are known by what was noted of them alone, for the file of the next manager.
     ///
     /// # Errors
-    /// Want of memory.
+    /// Lack of memory.
     pub fn notes<R: Files + AllocGlobal>(&self, rt: &R) -> Result<String, AllocError> {
         noted_lines(rt, &self.noted)
     }
@@ -514,7 +514,7 @@ impl Orphans {
     }
 
     /// Ends all, and those that they start meanwhile: first those that none of them started, and the others where they don't end
-    /// by themselves behind these. Those that are known by what was noted alone are waited for, and not killed: the notes are a file,
+    /// by themselves after these. Those that are known by what was noted alone are waited for, and not killed: the notes are a file,
     /// into which others may have written.
     fn end<R: Processes + Files<File = File> + Clock + AllocGlobal + Clone + Drop>(
         &mut self,

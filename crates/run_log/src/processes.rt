@@ -42,7 +42,7 @@ pub(crate) struct Standing {
     pub(crate) forked: bool,
 }
 
-/// What stands behind the name of a program, which is in parentheses and may have any bytes: what follows the last parenthesis.
+/// What comes after the name of a program, which is in parentheses and may have any bytes: what follows the last parenthesis.
 fn behind_name(stat: &[u8]) -> &[u8] {
     match stat.iter().rposition(|byte| *byte == b')') {
         Some(place) => &stat[place + 1..],
@@ -164,7 +164,7 @@ fn environment_of_threads<R: Files + AllocGlobal + Clone + Drop>(
     Ok(None)
 }
 
-/// The environment with which the program of a process was started, that stands so: settings, a byte 0 behind each; none where there
+/// The environment with which the program of a process was started, that is so: settings, a byte 0 after each; none where there
 /// is no such process, or it can't be read: it is another user's, say.
 ///
 /// # Errors

@@ -116,7 +116,7 @@ pub fn keeps_round<R: Files + AllocGlobal>(rt: &R, path: &str, round: &str) -> b
 /// An identifier that no other round has: a random one of the system, or else one of the time and of this process.
 ///
 /// # Errors
-/// Want of memory.
+/// Lack of memory.
 pub fn new_round<R: Files + Clock + AllocGlobal>(rt: &R) -> Result<String, AllocError> {
     if let Ok(text) = fs::read_to_string(rt, "/proc/sys/kernel/random/uuid") {
         let round = text.as_str().trim();

@@ -1,4 +1,4 @@
--- A phase that has a command fails for want of memory alone.
+-- A phase that has a command fails for lack of memory alone.
 use Rattle.std.proofs.Common.{◌≡◌, ℕ, List, Result, Ok, ⊎_elim}
 use Rattle.run_plan_node.specs.declared.command.ChildCommand.{ChildCommand}
 use Rattle.run_plan.specs.declared.fault.PlanFault.{PlanFault}

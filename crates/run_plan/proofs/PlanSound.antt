@@ -74,7 +74,7 @@ spec_expandable : (always : Bool) (limits : List CategoryLimit) (parents : List 
 unfolding is_expandable HasCommand
 spec_expandable always limits parents job marked node has = has
 
--- A node whose job was read without a fault is sound, and the nodes behind it have none.
+-- A node whose job was read without a fault is sound, and the nodes after it have none.
 first_expandable : (always : Bool) (files : Option Files) (limits : List CategoryLimit) (parents : List ℕ) (marked : Bool) (node : FlatNode) (nodes : List FlatNode) → first_plan_fault files (node ∷ nodes) ≡ Ok tt
     → (is_expandable (spec_of always limits parents (job_or_program node (job_at files node)) marked node) ≡ true) × (first_plan_fault files nodes ≡ Ok tt)
 first_expandable always files limits parents marked node nodes = go (job_at files node) refl

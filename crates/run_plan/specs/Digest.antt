@@ -4,7 +4,7 @@ use Rattle.std.specs.Int.{w64, to_be_bytes}
 use Rattle.std.specs.List.{flat_map}
 use Rattle.sha2.specs.Sha256.{sha256}
 
--- a text behind its length, of eight bytes
+-- a text after its length, of eight bytes
 abbrev pub sized : List ℕ → List ℕ
 sized text = to_be_bytes w64 (length text) ++ text
 
@@ -17,8 +17,8 @@ abbrev pub sized_rescue : Option (List ℕ) → List ℕ
 sized_rescue None = 0 ∷ []
 sized_rescue (Some bytes) = 1 ∷ sized bytes
 
--- The path of the DAG file, the files in the order of the bytes of their names, and the rescue file. Each text stands
--- behind its length, so no two inputs spell the same bytes.
+-- The path of the DAG file, the files in the order of the bytes of their names, and the rescue file. Each text is
+-- after its length, so no two inputs spell the same bytes.
 unfoldable pub digest_text : List ℕ → List (List ℕ × List ℕ) → Option (List ℕ) → List ℕ
 digest_text top files rescue = sized top ++ flat_map sized_file files ++ sized_rescue rescue
 

@@ -5,7 +5,7 @@ use Rattle.dag_graph.specs.Graph.{Network}
 use Rattle.run_plan_node.specs.Node.{NodeSpec, no_node}
 
 -- the ordinary nodes by their numbers, the FINAL node, which has the next number, the graph that they were made from, the
--- digest of all files that the plan was made from, and whether POST runs behind a failed PRE
+-- digest of all files that the plan was made from, and whether POST runs after a failed PRE
 pub record Plan : Type 0 where
   pub nodes : List NodeSpec
   pub final_node : Option NodeSpec

@@ -4,7 +4,7 @@ use Rattle.dag_reader.specs.Results.{Tells, Returns}
 use Rattle.run_plan.specs.declared.fault.PlanFault.{PlanFault}
 use Rattle.run_plan.specs.declared.fault.PlanFault.TheVariants.{Memory}
 
--- The fault that a refusal tells; for want of memory it tells none.
+-- The fault that a refusal tells; for lack of memory it tells none.
 abbrev pub told_fault : PlanFault → Option PlanFault
 told_fault Memory = None
 told_fault fault = Some fault

@@ -9,7 +9,7 @@ use Rattle.run_plan_node.specs.Node.{Job, NodeSpec}
 use Rattle.run_plan_node.specs.Specs.{spec_of}
 use Rattle.run_plan.specs.Plan.{Plan}
 
--- what the jobs of nodes are started by, which nodes a rescue file marks, and whether POST runs behind a failed PRE
+-- what the jobs of nodes are started by, which nodes a rescue file marks, and whether POST runs after a failed PRE
 pub record Sources : Type 0 where
   pub job : FlatNode → Job
   pub marked : ℕ → Bool

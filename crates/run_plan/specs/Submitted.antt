@@ -121,7 +121,7 @@ sources_of always_post files numbers = record {
 }
 
 -- The plan of a graph, or the first fault: those of the nodes in plan order, then that of the rescue file. The flag says
--- whether POST runs behind a failed PRE.
+-- whether POST runs after a failed PRE.
 unfoldable pub plan_at : Bool → Network → Option Files → Option (List ℕ) → List ℕ → Result Plan PlanFault
 plan_at always_post graph files rescue digest =
     first_plan_fault files (all_nodes graph.dag) >>= λ none. rescued_in graph.dag rescue >>= λ numbers.

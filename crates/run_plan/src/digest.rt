@@ -10,7 +10,7 @@ ghost use Rattle.run_plan.specs.Digest.{digest_of, sized, sized_file, sized_resc
 use sha2::{Digest, Sha256};
 use splices_flat::FileSet;
 
-/// Adds a text behind its length.
+/// Adds a text after its length.
 fn add_sized(hasher: &mut Sha256, text: &[u8])
     ensures { (m : List ℕ) → Holds256 hasher.old m → Holds256 hasher.new (m ++ sized text.now) }
 {

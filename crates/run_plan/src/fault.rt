@@ -37,7 +37,7 @@ pub enum PlanFault {
     Memory,
 }
 
-// Each function that lets a value go calls this; a derived drop stands in each, part by part.
+// Each function that drops a value calls this; a derived drop would be in each, part by part.
 impl Drop for PlanFault {
     fn drop(self) {
         match self {

@@ -36,7 +36,7 @@ pub struct Plan {
     absent: NodeSpec,
 }
 
-// Each function that lets a value go calls this; a derived drop stands in each, part by part.
+// Each function that drops a value calls this; a derived drop would be in each, part by part.
 impl Drop for Plan {
     fn drop(self) {
         let Plan {
@@ -66,7 +66,7 @@ impl Model for Plan {
 impl Plan {
     /// The plan of a graph whose submit files stand in a set, and of a rescue file, if there is one:
     /// the nodes that it names are done from the start. With `always_post` the POST script of a node
-    /// runs behind a PRE script that failed, too.
+    /// runs after a PRE script that failed, too.
     ///
     /// Each text of a job is expanded once here, for the last attempt that is allowed and the
     /// greatest launch number, so that no fault is left for the run.
@@ -98,7 +98,7 @@ impl Plan {
 
     /// The plan of a graph, with no submit file read: each job is started by the path of its submit
     /// file. The nodes that the rescue file names, if there is one, are done from the start. With
-    /// `always_post` the POST script of a node runs behind a PRE script that failed, too.
+    /// `always_post` the POST script of a node runs after a PRE script that failed, too.
     ///
     /// # Errors
     /// The graph is handed back, with the first line of the rescue file that can't be read
@@ -188,22 +188,22 @@ impl Plan {
 
     /// SHA-256 of what the plan was made from: the path of the DAG file, each file of the set with
     /// its name, in the order of the bytes of the names (of none for a bare plan), and the rescue
-    /// file. Each of these texts stands behind its length, of eight bytes; before the rescue file
-    /// stands a byte 1, and a byte 0 where there is none. Whether POST always runs is no part of it.
+    /// file. Each of these texts comes after its length, of eight bytes; before the rescue file
+    /// is a byte 1, and a byte 0 where there is none. Whether POST always runs is no part of it.
     pub fn digest(&self) -> &[u8; 32]
         ensures { result.now ≡ self.now.digest }
     {
         &self.digest
     }
 
-    /// Whether a POST script runs behind a PRE script that failed, too, as `build` was asked.
+    /// Whether a POST script runs after a PRE script that failed, too, as `build` was asked.
     pub fn always_post(&self) -> bool
         ensures { result ≡ self.now.always_post }
     {
         self.always_post
     }
 
-    /// The node of this number; that behind the last is the FINAL node. Where there is none, a node
+    /// The node of this number; that after the last is the FINAL node. Where there is none, a node
     /// without a name stands for it, which is done.
     pub fn spec(&self, node: u32) -> &NodeSpec
         requires { node ≤ count_of self.now }
@@ -268,7 +268,7 @@ struct Nodes {
 }
 
 /// What the files say of all nodes. The rescue file is read first, since its marks go into the
-/// nodes; its fault comes behind theirs.
+/// nodes; its fault comes after theirs.
 fn nodes_of(
     alloc: Global,
     graph: &Graph,

@@ -114,7 +114,7 @@ impl Dooms {
     /// Looks at what the job of a node needs, where it can start at once; the first thing that is not as it has to be counts.
     ///
     /// # Errors
-    /// Want of memory.
+    /// Lack of memory.
     pub(crate) fn look<R: Files<File = File> + Env + AllocGlobal>(
         &mut self,
         rt: &R,
@@ -144,7 +144,7 @@ impl Dooms {
     /// A line for each cause, with the node or with how many there are; at most ten, and how many further causes there are.
     ///
     /// # Errors
-    /// Want of memory.
+    /// Lack of memory.
     pub(crate) fn text(&self, alloc: Global, plan: &Plan) -> Result<String, AllocError> {
         let mut text = String::new(alloc);
         for doom in self.found.iter().take(MOST_SHOWN) {

@@ -18,10 +18,10 @@ pub struct ErrorWatcher<'a> {
 }
 
 impl<'a> ErrorWatcher<'a> {
-    /// Of a run of this plan, behind these records of earlier managers: what had failed by then doesn't count.
+    /// Of a run of this plan, after these records of earlier managers: what had failed by then doesn't count.
     ///
     /// # Errors
-    /// Want of memory.
+    /// Lack of memory.
     pub fn new(
         alloc: Global,
         plan: &'a Plan,

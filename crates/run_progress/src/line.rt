@@ -259,7 +259,7 @@ fn first_fitting(alloc: Global, width: usize, whole: String, bare: String, cut: 
 /// no control characters.
 ///
 /// # Errors
-/// Want of memory.
+/// Lack of memory.
 pub fn line_text(alloc: Global, line: &ProgressLine<'_>, width: usize) -> Result<String, AllocError>
     ensures is { IfOk result (λ text. string_bytes text ≡ progress_line line.now.counts
         (map (λ node. (node.name.now, node.seconds)) line.now.longest.now) line.now.running line.now.seconds width) }
@@ -279,7 +279,7 @@ pub fn line_text(alloc: Global, line: &ProgressLine<'_>, width: usize) -> Result
 /// A line of `line_text` in colours: where nodes failed, how many these are is red, if the line has it whole.
 ///
 /// # Errors
-/// Want of memory.
+/// Lack of memory.
 pub fn painted(alloc: Global, line: &str, failed: u32) -> Result<String, AllocError>
     ensures { IfOk result (λ text. string_bytes text ≡ painted line.now failed) }
 {

@@ -24,7 +24,7 @@ fn push_character(text: &mut String, character: char) -> Result<(), AllocError> 
 /// terminal nothing.
 ///
 /// # Errors
-/// Want of memory; a part of it may have been added.
+/// Lack of memory; a part of it may have been added.
 pub(crate) fn push_shown(text: &mut String, shown: &str) -> Result<(), AllocError> {
     for character in shown.chars() {
         push_character(text, character)?;
@@ -35,7 +35,7 @@ pub(crate) fn push_shown(text: &mut String, shown: &str) -> Result<(), AllocErro
 /// Adds bytes as `push_shown` does their text; those that are none stand as `\xHH`.
 ///
 /// # Errors
-/// Want of memory; a part of it may have been added.
+/// Lack of memory; a part of it may have been added.
 pub(crate) fn push_bytes(text: &mut String, bytes: &[u8]) -> Result<(), AllocError> {
     for chunk in bytes.utf8_chunks() {
         push_shown(text, chunk.valid())?;
@@ -49,7 +49,7 @@ pub(crate) fn push_bytes(text: &mut String, bytes: &[u8]) -> Result<(), AllocErr
 /// A text as a terminal may show it.
 ///
 /// # Errors
-/// Want of memory.
+/// Lack of memory.
 pub(crate) fn shown(alloc: Global, text: &str) -> Result<String, AllocError> {
     let mut made = String::new(alloc);
     push_shown(&mut made, text)?;
@@ -83,7 +83,7 @@ fn count_fitting(text: &str, width: usize) -> usize {
 /// Adds a text where it takes no more columns than this, and else its beginning and `..`.
 ///
 /// # Errors
-/// Want of memory; a part of it may have been added.
+/// Lack of memory; a part of it may have been added.
 pub(crate) fn push_cut(text: &mut String, shown: &str, width: usize) -> Result<(), AllocError> {
     if fits(shown, width) {
         return text.push_str(shown);

@@ -35,7 +35,7 @@ pub(crate) enum Ending {
     Failed,
 }
 
-/// The nodes of a run. A NOOP, for which no child runs, counts as done as soon as nothing stands before it.
+/// The nodes of a run. A NOOP, for which no child runs, counts as done as soon as nothing is before it.
 #[derive(Drop)]
 pub(crate) struct Tally {
     nodes: Vec<NodeTally>,
@@ -67,7 +67,7 @@ fn fresh_node(plan: &Plan, node: u32) -> Option<NodeTally> {
     })
 }
 
-/// What a plan says of the node of this number, FINAL being behind the others; none where there is no such node.
+/// What a plan says of the node of this number, FINAL being after the others; none where there is no such node.
 fn spec_of(plan: &Plan, node: u32) -> Option<&NodeSpec> {
     if node > plan.count() {
         return None;
@@ -126,7 +126,7 @@ fn recount(counts: &mut Counts, before: Place, after: Place) {
     }
 }
 
-/// What the end of a phase was for its node, by its run before and behind it.
+/// What the end of a phase was for its node, by its run before and after it.
 fn ending_of(before: &NodeRun, after: &NodeRun, outcome: Outcome) -> Ending {
     if before.attempts_ended() == after.attempts_ended() {
         return match value_of(outcome) {
@@ -173,7 +173,7 @@ impl Tally {
     /// The nodes of a plan after the records of earlier managers. Those that are done by then are kept.
     ///
     /// # Errors
-    /// Want of memory.
+    /// Lack of memory.
     pub(crate) fn new(alloc: Global, plan: &Plan, records: &[Record]) -> Result<Tally, AllocError> {
         let mut tally = Tally::fresh(alloc, plan)?;
         for record in records {
@@ -286,7 +286,7 @@ impl Tally {
     /// where it did not run.
     ///
     /// # Errors
-    /// Want of memory.
+    /// Lack of memory.
     pub(crate) fn ended(
         &mut self,
         alloc: Global,

@@ -91,7 +91,7 @@ fn stty_columns<R: Processes>(alloc: Global, rt: &R, terminal: File) -> Option<u
     columns_in(columns)
 }
 
-/// Where the terminal stands that is standard error; else that from which this process is controlled.
+/// Where the terminal is that is standard error; else that from which this process is controlled.
 const TERMINALS: [&str; 2] = ["/proc/self/fd/2", "/dev/tty"];
 
 /// How wide the terminal is, where the system says it.
@@ -153,7 +153,7 @@ impl Width {
         }
     }
 
-    /// How many columns a line may take: all but the last, behind which some terminals begin a new line.
+    /// How many columns a line may take: all but the last, after which some terminals begin a new line.
     pub(crate) fn usable(&self) -> usize {
         self.columns.min(MOST_WIDTH).saturating_sub(1)
     }

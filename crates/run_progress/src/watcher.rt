@@ -19,7 +19,7 @@ use std::time::{Clock, Duration};
 use std::{io, mem};
 use throttles::Limits;
 
-/// For how many milliseconds a line that is drawn anew stands at least.
+/// For how many milliseconds a line that is drawn anew stays at least.
 const REDRAWN_EACH: u64 = 100;
 
 /// How many milliseconds it is from one plain line to the next at least.
@@ -64,7 +64,7 @@ struct Progress<'a, R: Drop> {
     suffered: Vec<Failure>,
     began: Duration,
     drawn: Option<Duration>,
-    /// the line that stands there
+    /// the line that is there
     line: String,
     width: Width,
     /// whether how many nodes failed is drawn in red
@@ -115,7 +115,7 @@ impl<'a, R: Screen + Processes + Files<File = File> + Clock + AllocGlobal + Copy
     'a,
     R,
 > {
-    /// Nothing runs yet, behind these records of earlier managers.
+    /// Nothing runs yet, after these records of earlier managers.
     fn new(rt: R, run: Watched<'a>, records: &[Record]) -> Progress<'a, R> {
         let alloc = rt.alloc();
         let began = rt.monotonic().unwrap_or(Duration::ZERO);
@@ -231,7 +231,7 @@ impl<'a, R: Screen + Processes + Files<File = File> + Clock + AllocGlobal + Copy
         Ok(())
     }
 
-    /// Shows how far the run is, where that is due and it is another line than the one that stands there.
+    /// Shows how far the run is, where that is due and it is another line than the one that is there.
     fn redraw(&mut self, at_pause: bool) -> Result<(), AllocError> {
         let now = self.now();
         if !self.is_due(now, at_pause) {
@@ -453,7 +453,7 @@ impl<'a, R: Screen + Processes + Files<File = File> + Clock + AllocGlobal + Copy
         self.redraw(true)
     }
 
-    /// Tells how many nodes are done as the run begins, behind these words, and before those.
+    /// Tells how many nodes are done as the run begins, after these words, and before those.
     fn tell_kept(&self, counts: Counts, front: &str, back: &str) -> Result<(), AllocError> {
         let verb = if counts.done == 1 { "is" } else { "are" };
         let (done, total) = (counts.done, counts.total);
@@ -560,7 +560,7 @@ impl<
         ProgressWatcher { progress: None }
     }
 
-    /// It shows how far this run is, which goes on behind these records of earlier managers.
+    /// It shows how far this run is, which goes on after these records of earlier managers.
     pub fn new(rt: R, run: Watched<'a>, records: &[Record]) -> ProgressWatcher<'a, R> {
         ProgressWatcher {
             progress: Some(Progress::new(rt, run, records)),

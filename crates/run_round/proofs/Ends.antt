@@ -117,19 +117,19 @@ older-finished entry held kept same = (entry ∷ [], same)
 pub one-more : (entry : Record) (held kept : List Record) → kept ≡ held → IsMore kept (entry ∷ held)
 one-more entry held kept same = record { added = entry ∷ []; few = omega arith; is = ap (λ (l : List Record). entry ∷ l) (sym same) }
 
--- behind all steps it may be halted
+-- after all steps it may be halted
 pub at-steps : (limits : Limits) (plan : Plan) (may : Telling) (past : List Record) (call_log : List Call) (after : List Record) (last : List Call)
     → Drives limits plan may past call_log after last → IsHalted limits plan may past call_log after last
 at-steps limits plan may past call_log after last steps = record { keys = []; owed = []; steps = steps }
 
--- behind all steps, where nothing was refused of the journal
+-- after all steps, where nothing was refused of the journal
 pub steps_last : (limits : Limits) (plan : Plan) (may : Telling) (past : List Record) (call_log : List Call) (header : Header) (kept : List Record) (last : List Call) (image : List ℕ)
     → is_lawful plan kept ≡ true → Drives limits plan may past call_log kept last → ReadsJournal header kept image → IsLastMoment limits plan may past call_log None kept last header image
 steps_last limits plan may past call_log header kept last image lawful steps reads =
     last_at limits plan may (at_rest past call_log) header (at_rest kept last) None kept last image steps lawful (older-self kept) (older-self last) (older-self kept) reads
 
 module _ {R : Type 0} (rescues : Ghosts R) (rescue : Option R) (limits : Limits) (plan : Plan) (may : Telling) (past : List Record) (call_log : List Call) (header : Header) where
-  -- The record of the end, behind the steps of the run: what they came to, without it and with it.
+  -- The record of the end, after the steps of the run: what they came to, without it and with it.
   pub record IsEndCall (by fault : Option DriveFault) (kept : List Record) (last : List Call) (between : List Record) (entry : Record) : Type 0 where
     pub lawful : is_lawful plan between ≡ true
     pub follows : may_follow plan between entry ≡ true
@@ -204,14 +204,14 @@ module _ {R : Type 0} (rescues : Ghosts R) (rescue : Option R) (limits : Limits)
         moments.weaker disks old new (IsMomentOfRun limits plan may past call_log fault kept last header) (IsMomentOfLead rescues rescue limits plan may past call_log fault kept last header)
         (λ image run. inl run) leaves
 
-    -- a run that was driven, as its end may be recorded behind it
+    -- a run that was driven, as its end may be recorded after it
     pub lead_grown : (old new : D) (between : List Record) → IsOlderPart between kept → CrashesLeave disks old new (IsMomentOfRun limits plan may past call_log None between last header)
         → CrashesLeave disks old new (IsMomentOfLead rescues rescue limits plan may past call_log fault kept last header)
     lead_grown old new between grown leaves =
         moments.weaker disks old new (IsMomentOfRun limits plan may past call_log None between last header) (IsMomentOfLead rescues rescue limits plan may past call_log fault kept last header)
         (λ image run. inl (moment_grows limits plan may (at_rest past call_log) header fault between last kept last grown (older-self last) image run)) leaves
 
-    -- a crash while the end is recorded, behind the steps of the run
+    -- a crash while the end is recorded, after the steps of the run
     pub then_end : (old mid new : D) (by : Option DriveFault) (between : List Record) (entry : Record) → IsEndCall by fault kept last between entry → IsOlderPart between kept
         → CrashesLeave disks old mid (IsMomentOfRun limits plan may past call_log None between last header) → CrashesLeave disks mid new (ReadsBy by header between (entry ∷ between))
         → CrashesLeave disks old new (IsMomentOfLead rescues rescue limits plan may past call_log fault kept last header)

@@ -39,7 +39,7 @@ pub data IsSealFault {R : Type 0} (disks : Ghosts R) (plan : Plan) (past : List 
   rescue_had_no_room : disks.capacity disk < length (rescue_text_for plan past) →
       IsSealFault disks plan past disk left (faults.Journal journal.DiskFull)
 
--- The rescue file's disk has nothing to do with the journal: where that one fails, a crash leaves of the journal, at any moment and behind the call,
+-- The rescue file's disk has nothing to do with the journal: where that one fails, a crash leaves of the journal, at any moment and after the call,
 -- what it leaves of a run without a fault, and all that was recorded stays.
 pub record IsJournalKept {D : Type 0} (disks : Ghosts D) (may : Telling) (old manager : Managed D) (call_log later_log : List Call) : Type 0 where
   pub any_moment : AtAnyMoment disks old manager (IsMomentOfRun (limits_of old) (plan_of old) may (past_of old) call_log None (past_of manager) later_log)
@@ -67,7 +67,7 @@ pub data IsRunToEndFault {D R : Type 0} (disks : Ghosts D) (rescues : Ghosts R) 
       IsRescued rescues (plan_of manager) (past_of manager) left →
       IsRunToEndFault disks rescues before now may old manager call_log later_log disk left drives.Memory
 
--- the faults of a manager by which a round is stopped: those of the disks, and of what stands on the journal's
+-- the faults of a manager by which a round is stopped: those of the disks, and of what is on the journal's
 pub data IsManagerStop : ManagerFault → Type 0 where
   stopped_by_memory : IsManagerStop faults.Memory
   stopped_by_disk : IsManagerStop (faults.Journal journal.Device)
@@ -83,7 +83,7 @@ MayStop (drives.Manager fault) = IsManagerStop fault
 MayStop _ = Unit {0}
 
 -- Why a round isn't run to its end, and what is left of the journal's disk and of the rescue file's: its manager refuses to begin, or to
--- go on, and nothing was handed over; or, begun on what stood there, it isn't led to its end.
+-- go on, and nothing was handed over; or, begun on what was there, it isn't led to its end.
 pub data IsRoundRefusal {D R : Type 0} (disks : Ghosts D) (rescues : Ghosts R) (before now : ℕ) (plan : Plan) (slots : ℕ) (start : Start) (limits : Limits)
     (may : Telling) (call_log later_log : List Call) (disk left : D) (rescue : R) (rest : Option R) : DriveFault → Type 0 where
   not_opened : {fault : ManagerFault} → later_log ≡ call_log → rest ≡ Some rescue → IsOpeningFault disks plan slots start disk left fault →

@@ -29,7 +29,7 @@ abbrev pub rescue_behind : {R : Type 0} → Result (RunToEnd R) (Option R × Dri
 rescue_behind (Ok led) = led.rescue
 rescue_behind (Err refused) = refused.0
 
--- A moment at which the end of the run is recorded, behind all of its steps and calls: the image has the end. The rescue file that the run owes
+-- A moment at which the end of the run is recorded, after all of its steps and calls: the image has the end. The rescue file that the run owes
 -- is on its disk by then, which is the one that is handed back.
 pub record IsMomentOfEnd {R : Type 0} (rescues : Ghosts R) (rescue : Option R) (limits : Limits) (plan : Plan) (may : Telling) (past : List Record) (call_log : List Call)
     (fault : Option DriveFault) (kept : List Record) (last : List Call) (header : Header) (image : List ℕ) : Type 0 where

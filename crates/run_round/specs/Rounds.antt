@@ -50,7 +50,7 @@ IsMomentOfOpening GoOn plan before found = IsMomentOfRecovery plan before (repla
 
 -- What a round makes of the journal's disk: a crash at any moment leaves one from before it, a moment of its opening, or one of the
 -- run that it leads, of these inputs, and the run's end only where the rescue file that is owed is on its disk, which is handed back; and a crash
--- behind it none that lacks a record that is kept.
+-- after it none that lacks a record that is kept.
 pub record IsRoundOnDisk {D R : Type 0} (disks : Ghosts D) (rescues : Ghosts R) (rescue : Option R) (start : Start) (limits : Limits) (plan : Plan)
     (may : Telling) (past : List Record) (call_log : List Call) (fault : Option DriveFault) (kept : List Record) (last : List Call) (disk left : D) : Type 0 where
   pub header : Header
@@ -59,8 +59,8 @@ pub record IsRoundOnDisk {D R : Type 0} (disks : Ghosts D) (rescues : Ghosts R) 
       (λ image. IsMomentOfOpening start plan (disks.may_leave disk) (disks.seen disk) image ⊎ IsMomentOfLead rescues rescue limits plan may past call_log fault kept last header image)
   pub at_the_end : (image : List ℕ) → disks.may_leave left image → IsLastOfLead rescues rescue limits plan may past call_log fault kept last header image
 
--- A round over any disks and starter: its life began on the records of the bytes that stood there, and Life; it was led to
--- its end, one step behind another, and printed this; the commands of its launches were handed over; and the rescue file that it
+-- A round over any disks and starter: its life began on the records of the bytes that were there, and Life; it was led to
+-- its end, one step after another, and printed this; the commands of its launches were handed over; and the rescue file that it
 -- owes is on its disk, which is honest as the one was that it was handed.
 pub record IsRoundRun {D R : Type 0} (disks : Ghosts D)
     (rescues : Ghosts R) (plan : Plan) (start : Start) (limits : Limits) (may : Telling) (call_log later_log : List Call)
@@ -94,7 +94,7 @@ pub record BeginsOn {D : Type 0} (plan : Plan) (image : List ℕ) (manager : Man
   pub lawful : IsTrue (is_lawful plan begun)
   pub records : past_of manager ≡ Life ∷ begun
 
--- A round is opened: its manager keeps to the limits, and its life has begun on the records of the bytes that stood there. The journal is
+-- A round is opened: its manager keeps to the limits, and its life has begun on the records of the bytes that were there. The journal is
 -- whole, of as many slots; of an honest disk it counts the slots that are used. The disk has its bounds, and has failed no less often.
 pub record IsRoundOpened {D : Type 0} (disks : Ghosts D) (plan : Plan) (slots : ℕ) (start : Start) (limits : Limits) (disk : D) (manager : Managed D) : Type 0 where
   pub plan_is : plan_of manager ≡ plan

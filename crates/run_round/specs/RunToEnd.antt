@@ -35,7 +35,7 @@ pub record IsRunToEnd (plan : Plan) (begun records : List Record) (text : List �
   pub text_is : text ≡ run_text plan records status
   pub status_is : status ≡ exit_status plan records
 
--- One step of a run behind another, until what is to be done next is to finish; and then its end, with that verdict.
+-- One step of a run after another, until what is to be done next is to finish; and then its end, with that verdict.
 pub record DrivesToEnd (limits : Limits) (plan : Plan) (may : Telling) (past : List Record) (call_log : List Call) (records : List Record) (later_log : List Call) : Type 0 where
   pub between : List Record
   pub status : ℕ
@@ -43,7 +43,7 @@ pub record DrivesToEnd (limits : Limits) (plan : Plan) (may : Telling) (past : L
   pub chosen : IsChoice limits plan between (choices.Finish status)
   pub ended : records ≡ Finish status ∷ between
 
--- One step of a run behind another, until what is to be done next is to finish.
+-- One step of a run after another, until what is to be done next is to finish.
 pub record IsAtEnd (limits : Limits) (plan : Plan) (may : Telling) (past : List Record) (call_log : List Call) (records : List Record) (later_log : List Call) : Type 0 where
   pub status : ℕ
   pub steps : Drives limits plan may past call_log records later_log

@@ -15,7 +15,7 @@ ghost use Rattle.run_round.specs.Moments.{IsMomentOfEnd, IsLastOfLead, IsLifeAtE
 use event_journal_log::Disk;
 use job_starter_drive::Starter;
 
-/// A run that a manager began or went on with stopped while its end was recorded, by a crash or behind
+/// A run that a manager began or went on with stopped while its end was recorded, by a crash or after
 /// a fault: it is a life of the run, of the bytes that the manager found, as at each other moment
 /// (job_starter_drive's law `stops`).
 pub fn stops_at_end<S: Starter, R: Disk + Drop>()
@@ -25,7 +25,7 @@ pub fn stops_at_end<S: Starter, R: Disk + Drop>()
         IsHeaderOf plan header → ReadsForInputs plan past found →
         (stop : IsMomentOfEnd R.Disk rescue limits plan (S.may_return starter) (Life ∷ past) call_log fault kept last header image) →
         IsLifeAtEnd past call_log found image stop }
-    // Behind the call: by the records that it kept, an image is one that their life leaves.
+    // After the call: by the records that it kept, an image is one that their life leaves.
     ensures leaves { (rescue : Option R) (limits : Limits) (plan : Plan) (starter : S) (past : List Record)
         (call_log : List Call) (fault : Option DriveFault) (kept : List Record) (last : List Call)
         (header : Header) (image : List ℕ) → IsHeaderOf plan header →

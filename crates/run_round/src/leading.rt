@@ -72,12 +72,12 @@ pub fn run_to_end<D: Disk + Drop, R: Disk + Drop, S: Starter>(
     requires unfinished { IsFalse (is_over (past_of manager.old)) }
     ensures led { IfOk result (λ led.
         IsRunToEnd plan.now (past_of manager.old) (past_of manager.new) (string_bytes led.text) led.status) }
-    // What was recorded and handed over, one step behind another, and then the end.
+    // What was recorded and handed over, one step after another, and then the end.
     ensures steps { OnOk result (DrivesToEnd (limits_of manager.old) (plan_of manager.old)
         (S.may_return starter.old) (past_of manager.old) (S.call_log starter.old)
         (past_of manager.new) (S.call_log starter.new)) }
-    // Behind a fault too the records went on, and no child runs; the commands of the own launches were
-    // handed over once each and in their order, behind a fault perhaps but the last, of one round.
+    // After a fault too the records went on, and no child runs; the commands of the own launches were
+    // handed over once each and in their order, after a fault perhaps but the last, of one round.
     ensures plan { plan_of manager.new ≡ plan_of manager.old }
     ensures goes_on { IsSuffix (past_of manager.old) (past_of manager.new) }
     ensures spawns { OnOk result (SpawnsAll (plan_of manager.old) (past_of manager.old)
@@ -86,7 +86,7 @@ pub fn run_to_end<D: Disk + Drop, R: Disk + Drop, S: Starter>(
         (past_of manager.new) (S.call_log starter.old) (S.call_log starter.new)) }
     ensures none_left { running (S.call_log starter.new) ≡ [] }
     // A crash at any moment of the call leaves what makes it a life of the run (job_starter_drive's law
-    // `stops`, and `stops_at_end`), and behind it none of the records that are kept is missing.
+    // `stops`, and `stops_at_end`), and after it none of the records that are kept is missing.
     ensures any_moment { AtAnyMoment D.Disk
         manager.old manager.new (IsMomentOfLead R.Disk (rescue_behind result) (limits_of manager.old) (plan_of manager.old)
         (S.may_return starter.old) (past_of manager.old) (S.call_log starter.old) (fault_behind result)

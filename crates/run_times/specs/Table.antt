@@ -6,7 +6,7 @@ use Rattle.run_times.specs.declared.runs.Ending.{Ending}
 use Rattle.run_times.specs.declared.runs.Ending.TheVariants.{Exit, Signal, Untold, NotStarted, Killed, Lost, Runs}
 use Rattle.run_times.specs.declared.runs.PhaseRun.{PhaseRun}
 
--- milliseconds as seconds, with three digits behind the point
+-- milliseconds as seconds, with three digits after the point
 abbrev pub seconds_text : ℕ → List ℕ
 seconds_text milliseconds =
     decimal (milliseconds / 1000) ++ (codes "." ++ (decimal (milliseconds / 100 % 10) ++ (decimal (milliseconds / 10 % 10) ++ decimal (milliseconds % 10))))

@@ -41,7 +41,7 @@ fn fits(width: u64, from: u64, to: u64) -> bool
     0 < width && width <= to.saturating_sub(from).saturating_sub(2 * PAD)
 }
 
-/// Where the label of a bar begins, which may go as far as a limit: in the bar if it fits, else behind it if it fits
+/// Where the label of a bar begins, which may go as far as a limit: in the bar if it fits, else after it if it fits
 /// there; none, where it fits nowhere.
 fn label_at(width: u64, left: u64, right: u64, limit: u64) -> Option<u64>
     ensures { result ≡ label_at width left right limit }
@@ -125,7 +125,7 @@ fn bar_of<'a>(
 /// The bars of phases, with a mark for each: whether it is on the critical path.
 ///
 /// # Errors
-/// Want of memory.
+/// Lack of memory.
 pub(crate) fn bars_of<'a>(
     alloc: Global,
     canvas: &Canvas,

@@ -159,7 +159,7 @@ impl Waits {
 /// None of them could have taken longer without the end of the run coming later.
 ///
 /// # Errors
-/// Want of memory.
+/// Lack of memory.
 pub(crate) fn critical_path(
     alloc: Global,
     graph: &Graph,
@@ -196,7 +196,7 @@ fn path_of(
 /// A mark for each of so many phases: whether it is on this path.
 ///
 /// # Errors
-/// Want of memory.
+/// Lack of memory.
 pub(crate) fn marks_of(alloc: Global, path: &[usize], count: usize) -> Result<Vec<bool>, AllocError>
     ensures { IfOk result (λ marks. AreMarksOf path.now count marks.items) }
 {

@@ -26,13 +26,13 @@ use dag_reader::Text;
 use std::alloc::{AllocError, Global};
 
 /// When each phase of the last round of the DAG file of this path began, of the files in this folder, and how long
-/// it took, by the log that stands beside it: a table with a row for each phase, in the order in which they
+/// it took, by the log that is beside it: a table with a row for each phase, in the order in which they
 /// began, a picture, JSON, or a summary of where the time went. Or when each round began of which there is a log, and how long it took, by the log
 /// of the round before, too, where it is there.
 ///
 /// # Errors
 /// Those of `bare_plan_here`; then a log that is missing, that the system refuses to read or that may be another user's (`FileRefused` with
-/// its path), and want of memory; for rounds then the log of the round before, which may be missing. Submit files are not read.
+/// its path), and lack of memory; for rounds then the log of the round before, which may be missing. Submit files are not read.
 pub fn times_here<F: Folder>(
     alloc: Global,
     folder: &F,
@@ -105,7 +105,7 @@ fn log_of<F: Folder>(alloc: Global, folder: &F, top: &str) -> Result<Vec<u8>, Ru
     Err(RunFault::FileRefused(String::from_str(alloc, path.as_str())?))
 }
 
-/// The bytes of the file beside a DAG file that has this ending behind its name, where it is there.
+/// The bytes of the file beside a DAG file that has this ending after its name, where it is there.
 fn file_beside<F: Folder>(
     alloc: Global,
     folder: &F,

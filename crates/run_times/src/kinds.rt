@@ -160,7 +160,7 @@ fn longest_with<'a>(
 /// The kinds of phases that took longest, the longest first; at most three.
 ///
 /// # Errors
-/// Want of memory.
+/// Lack of memory.
 pub(crate) fn longest_kinds<'a>(
     alloc: Global,
     graph: &'a Graph,

@@ -94,7 +94,7 @@ fn counted_in<'a>(
 /// How many of the phases that a limit counts ran at once, at most, when one of them began.
 ///
 /// # Errors
-/// Want of memory.
+/// Lack of memory.
 pub fn most_counted(
     alloc: Global,
     graph: &Graph,
@@ -176,7 +176,7 @@ fn category_limits<'a>(alloc: Global, graph: &'a Graph) -> Result<Vec<Limit<'a>>
 /// The limits of a round: those that the files of its graph have on categories, and those of the last manager that its log tells of.
 ///
 /// # Errors
-/// Want of memory.
+/// Lack of memory.
 pub fn limits_in<'a>(
     alloc: Global,
     graph: &'a Graph,

@@ -69,7 +69,7 @@ fn moments_of(alloc: Global, begins: &[u64], ends: &[u64]) -> Result<Vec<u64>, A
 /// How many phases ran from each moment on at which a phase began or ended, in order.
 ///
 /// # Errors
-/// Want of memory.
+/// Lack of memory.
 pub(crate) fn levels_of(alloc: Global, runs: &[PhaseRun<'_>]) -> Result<Vec<Level>, AllocError>
     ensures { IfOk result (λ levels. AreLevels runs.now levels.items) }
 {
@@ -101,7 +101,7 @@ pub(crate) fn peak_of(levels: &[Level]) -> usize
 /// How many phases ran at once, at most, when one of them began.
 ///
 /// # Errors
-/// Want of memory.
+/// Lack of memory.
 pub(crate) fn most_running(alloc: Global, runs: &[PhaseRun<'_>]) -> Result<usize, AllocError>
     ensures { IfOk result (λ most. most ≡ most_running runs.now (length runs.now)) }
 {

@@ -350,7 +350,7 @@ fn push_view(text: &mut String, width: u64, height: u64) -> Result<(), AllocErro
 /// critical path are framed. Below the bars is how many phases ran at each moment.
 ///
 /// # Errors
-/// Want of memory.
+/// Lack of memory.
 pub(crate) fn picture_text(
     alloc: Global,
     runs: &[PhaseRun<'_>],

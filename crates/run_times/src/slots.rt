@@ -41,7 +41,7 @@ fn occupy(free: &mut Vec<u64>, slot: usize, until: u64) -> Result<(), AllocError
 /// Gives each phase the first slot that is free when it begins.
 ///
 /// # Errors
-/// Want of memory.
+/// Lack of memory.
 pub(crate) fn slots_of(alloc: Global, runs: &[PhaseRun<'_>]) -> Result<Slots, AllocError>
     ensures { IfOk result (λ slots. AreSlots runs.now slots.of.items slots.count) }
 {

@@ -99,7 +99,7 @@ fn ends_of(
 /// longest path through the graph by what the phases took. No limit and no wait of dagrun's counts.
 ///
 /// # Errors
-/// Want of memory.
+/// Lack of memory.
 pub(crate) fn time_without_limits(
     alloc: Global,
     graph: &Graph,

@@ -296,7 +296,7 @@ fn push_lists(
 /// the path waited and took, and for which limit; and the kinds of phases that took longest. Times are in seconds.
 ///
 /// # Errors
-/// Want of memory.
+/// Lack of memory.
 pub(crate) fn summary_text(
     alloc: Global,
     graph: &Graph,

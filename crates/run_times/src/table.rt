@@ -7,7 +7,7 @@ use crate::runs::{Ending, PhaseRun};
 use log_lines::phase_word;
 use std::alloc::{AllocError, Global};
 
-/// Adds milliseconds as seconds, with three digits behind the point.
+/// Adds milliseconds as seconds, with three digits after the point.
 pub(crate) fn push_seconds(text: &mut String, milliseconds: u64) -> Result<(), AllocError>
     ensures { OnOk result (string_bytes text.new ≡ string_bytes text.old ++ seconds_text milliseconds) }
 {
@@ -70,7 +70,7 @@ fn push_mark(text: &mut String, mark: bool) -> Result<(), AllocError>
 /// A table of these phases, with a mark for each: whether it is on the critical path.
 ///
 /// # Errors
-/// Want of memory.
+/// Lack of memory.
 pub fn table_text(
     alloc: Global,
     runs: &[PhaseRun<'_>],

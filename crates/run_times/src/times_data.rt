@@ -89,7 +89,7 @@ fn times_value(alloc: Global, runs: &[PhaseRun<'_>], marks: &[bool]) -> Result<V
 /// These phases as JSON on one line, with a mark for each: whether it is on the critical path.
 ///
 /// # Errors
-/// Want of memory.
+/// Lack of memory.
 pub fn times_json(
     alloc: Global,
     runs: &[PhaseRun<'_>],

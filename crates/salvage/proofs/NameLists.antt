@@ -1,4 +1,4 @@
--- Lists of names: those at whose places a mark stands, those in a table, and those that are not in one.
+-- Lists of names: those at whose places a mark is, those in a table, and those that are not in one.
 use Rattle.std.proofs.Common.{◌≡◌, ◌∙◌, ◌+◌, ◌-◌, ◌<◌, ◌≤◌, ◌||◌, min, ℕ, suc, Bool, true, false, not, if◌then◌else◌, List, [], ◌∷◌, ◌++◌, length, map, filter, take, drop, get_or, refl, sym, ap, subst, arith, append_assoc, add-one, drop-cons}
 use Rattle.std.specs.Str.{bytes_eq}
 use Rattle.std.specs.List.{flat_map}
@@ -13,7 +13,7 @@ use Rattle.salvage.specs.Carried.{is_among_names, marks_by_name, gone_names, gon
 abbrev pub node_names : List FlatNode → List (List ℕ)
 node_names nodes = map (λ (node : FlatNode). node.name) nodes
 
--- the names at whose places a mark stands
+-- the names at whose places a mark is
 abbrev pub marked_of : List FlatNode → List Bool → List (List ℕ)
 marked_of nodes marks = marked (node_names nodes) marks
 

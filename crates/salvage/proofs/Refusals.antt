@@ -68,7 +68,7 @@ bad-number too path journal peek fault (found, reads, used_is, next_is, flag_is,
     no_such_number found fault reads (ap (is_passed_over too) finished_is ∙ left)
     (subst (λ (u : ℕ). IsNoNumber u found.header.next fault) (sym used_is) (subst (λ (n : ℕ). IsNoNumber peek.used n fault) (sym next_is) is))
 
--- the digest that stands in the header is that of the header
+-- the digest that is in the header is that of the header
 known-or : (digest journal : List ℕ) (known : Bool) → is_known journal ≡ known → (40 ≤ length journal → digest ≡ slice_range journal 8 40) → has_other digest journal ≡ false
 known-or digest journal false known by = ap (λ (k : Bool). k && not (bytes_eq (header_in journal).digest digest)) known
 known-or digest journal true known by =
@@ -131,7 +131,7 @@ foreign-at plan journal records place slot are why at =
     (foreign_slot plan (replay_of journal) (groups_in journal) f.0 f.1 (groups_read journal f.0 f.1) place slot
     (subst (λ (l : List Record). IsFirstForeign plan l place) f.2 first) at)
 
--- a plan's fault, but for want of memory
+-- a plan's fault, but for lack of memory
 pub plan-fault : (fault : PlanFault) (made : Result Plan PlanFault) → is_memory fault ≡ false → Fails fault made → made ≡ Err fault
 plan-fault plans.Memory made other fails = absurd cc
 plan-fault (plans.MissingFile path) made other fails = fails

@@ -13,7 +13,7 @@ abbrev pub is_passed_over : (too ended : Bool) → Bool
 is_passed_over too ended = ended && not too
 
 -- A journal of these bytes is that of a round which has ended or not, and is not passed over. Its header has the digest of the round's plan, the
--- number of the rescue file that the round read, 0 for none, that of the one which it would write, and whether POST runs behind a failed PRE.
+-- number of the rescue file that the round read, 0 for none, that of the one which it would write, and whether POST runs after a failed PRE.
 pub record IsRoundLeft (too ended : Bool) (journal digest : List ℕ) (used next : ℕ) (always_post : Bool) : Type 0 where
   pub found : Found
   pub reads : replay_of journal ≡ Ok (Some found)

@@ -36,7 +36,7 @@ pub record IsSalvaged (plan : Plan) (journal text : List ℕ) (done : ℕ) : Typ
   pub text_is : text ≡ rescue_text_for plan past
   pub done_is : done ≡ count_by (λ mark. mark) (marks_of plan past)
 
--- the plan of the files of a path and of a rescue file, with no submit file read; the flag says whether POST runs behind a failed PRE
+-- the plan of the files of a path and of a rescue file, with no submit file read; the flag says whether POST runs after a failed PRE
 pub record IsBarePlan (always_post : Bool) (files : Files) (path : List ℕ) (rescue : Option (List ℕ)) (plan : Plan) : Type 0 where
   pub graph : Network
   pub is_graph : IsGraphOf files path graph

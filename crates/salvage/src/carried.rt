@@ -29,7 +29,7 @@ pub(crate) struct Carried {
     pub gone: Vec<Text>,
 }
 
-/// The names of nodes at whose places a mark stands.
+/// The names of nodes at whose places a mark is.
 fn marked_names(alloc: Global, nodes: &[FlatNode], marks: &[bool]) -> Result<Vec<Text>, AllocError>
     requires { length marks.now ≡ length nodes.now }
     ensures { IfOk result (λ names. names.items ≡ marked (map (λ node. node.name) nodes.now) marks.now) }
@@ -128,7 +128,7 @@ fn carried_by(alloc: Global, done: &[Text], graph: &Graph) -> Result<Carried, Ru
     }
 }
 
-/// The names of the ordinary nodes that are done in a run as it stands.
+/// The names of the ordinary nodes that are done in a run as it is.
 fn done_names(alloc: Global, core: &Core<'_>) -> Result<Vec<Text>, RunFault>
     ensures names { IfOk result (λ names. names.items ≡ done_names core.now.plan core.now.past) }
     ensures err { IfErr result (λ fault. fault ≡ Memory) }

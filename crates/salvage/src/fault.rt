@@ -11,7 +11,7 @@ use std::alloc::{AllocError, AllocFailed};
 use std::fmt;
 use thiserror::Error;
 
-/// Why a round is not salvaged. It is displayed as `CODE Name PATH`, the line that the user reads behind
+/// Why a round is not salvaged. It is displayed as `CODE Name PATH`, the line that the user reads after
 /// `dagrun: `.
 #[derive(Drop, Error)]
 pub enum SalvageFault {

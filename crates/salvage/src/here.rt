@@ -392,7 +392,7 @@ pub fn has_own_files<R: Files + AllocGlobal>(
 /// is there, is spelled as it is written and has the journal's digest (a file there that may be another user's is
 /// `FileRefused`), a fault of the DAG files, as that the file of a splice is missing (`InFiles`), and a record that may not follow those before it
 /// (`InManager`). Then a rescue file or a journal that the system refuses (`FileRefused`); the same call goes on
-/// from there. Want of memory may stand before any.
+/// from there. Lack of memory may come before any.
 pub fn salvage_here<R: Files<File = File> + Clock + AllocGlobal + Copy + Drop, F: Folder>(
     rt: R,
     folder: &F,

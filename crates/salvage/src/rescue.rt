@@ -29,7 +29,7 @@ pub struct Salvaged {
 }
 
 /// The records of a journal of these bytes, whatever it is a journal of, the oldest first; none where none
-/// was begun. Whether POST scripts run behind failed PRE scripts is asked of the plan.
+/// was begun. Whether POST scripts run after failed PRE scripts is asked of the plan.
 ///
 /// # Errors
 /// `InManager` with the fault of the journal, and `Memory`.
@@ -81,7 +81,7 @@ pub(crate) fn count_marks(marks: &[bool]) -> usize
     marks.iter().filter(|mark| **mark).count()
 }
 
-/// The rescue file of a run as it stands.
+/// The rescue file of a run as it is.
 fn text_of(alloc: Global, core: &Core<'_>) -> Result<Salvaged, RunFault>
     ensures text { IfOk result (λ salvaged. string_bytes salvaged.text
         ≡ rescue_text_for core.now.plan core.now.past) }
@@ -101,7 +101,7 @@ fn text_of(alloc: Global, core: &Core<'_>) -> Result<Salvaged, RunFault>
 
 /// The text of the rescue file of a plan's round whose journal has these bytes, as the round would have
 /// written it had it stopped there: it marks the nodes that are done by the records. Whose journal it is
-/// isn't asked; whether POST scripts run behind failed PRE scripts is asked of the plan.
+/// isn't asked; whether POST scripts run after failed PRE scripts is asked of the plan.
 ///
 /// # Errors
 /// `InManager` with the fault of the journal, or with the slot of the first record that may not follow

@@ -34,7 +34,7 @@ pub(crate) struct RoundLeft {
     pub used: u16,
     /// The number of the rescue file that it would have written.
     pub next: u16,
-    /// Whether POST scripts run behind PRE scripts that failed, too.
+    /// Whether POST scripts run after PRE scripts that failed, too.
     pub always_post: bool,
 }
 
@@ -140,7 +140,7 @@ fn has_digest(inputs: &Inputs, digest: &[u8; 32]) -> bool
 /// What a round was begun with that has this digest.
 ///
 /// # Errors
-/// `NoInputs`, `BadInputs`, and `OtherRound` where another digest stands there; a file that the system
+/// `NoInputs`, `BadInputs`, and `OtherRound` where another digest is there; a file that the system
 /// refuses to read.
 pub(crate) fn inputs_with<F: Folder>(
     alloc: Global,

@@ -82,7 +82,7 @@ either-none true = refl
 either-none false = refl
 
 module _ (plan : Plan) where
-  -- behind a launch another ordinary phase may be launched as before
+  -- after a launch another ordinary phase may be launched as before
   pub launch-one : (past : List Record) (key : Key) (number node : ℕ) → node < count_of plan → launchable plan (Launch key number ∷ past) node ≡ unless_same key (launchable plan past node)
   unfolding may_launch is_ready is_aborted
   launch-one past key number node lt = go (next plan past node) refl
@@ -147,7 +147,7 @@ module _ (limits : Limits) (plan : Plan) (planned : IsPlanned plan) where
   lets-before keys key own h =
       start-fewer limits (limits_of_categories plan) (running_in plan keys) key.phase (node_at plan key.node).category (counted plan planned keys key.node) own.phase (node_at plan own.node).category h
 
-  -- what may not be started may not be started behind a launch either
+  -- what may not be started may not be started after a launch either
   pub still-none : (past : List Record) (key : Key) (number node : ℕ) → node < count_of plan → startable limits plan past node ≡ None → startable limits plan (Launch key number ∷ past) node ≡ None
   still-none past key number node lt none =
       ap (if_let_in limits plan (Launch key number ∷ past)) (launch-one plan past key number node lt)
@@ -176,7 +176,7 @@ module _ (limits : Limits) (plan : Plan) (planned : IsPlanned plan) where
       ap (if_let_in limits plan (Launch key number ∷ past))
       (launch-one plan past key number key.node lt ∙ ap (unless_same key) may ∙ (λ j. if same-self key j then None else Some key))
 
--- the same nodes wait behind a launch
+-- the same nodes wait after a launch
 pub waiting-on : (plan : Plan) (past : List Record) (members : List Member) (key : Key) (number : ℕ) → HaveReady plan past members → HaveReady plan (Launch key number ∷ past) members
 waiting-on plan past members key number are = record {
   ordered = are.ordered;
@@ -461,7 +461,7 @@ spread false s t = refl
 spread true true t = refl
 spread true false t = refl
 
--- an ordinary phase behind launches
+-- an ordinary phase after launches
 pub launch-behind : (plan : Plan) (past : List Record) (keys : List Key) (key : Key) → key.node < count_of plan → may_launch_all plan past keys ≡ true
     → may_follow plan (launched past keys) (launch_of (launched past keys) key) ≡ (may_follow plan past (launch_of past key) && not (is_among key keys))
 launch-behind plan past [] key lt all = sym (and-true (may_follow plan past (launch_of past key)))
@@ -503,7 +503,7 @@ final-alone : (plan : Plan) (past : List Record) → is_final_ready plan past �
 unfolding is_final_ready
 final-alone plan past h = let p = and_parts _ _ (and_parts _ _ h).0 in ((and_parts _ _ p.0).1, p.1)
 
--- FINAL's phase is not launched behind another
+-- FINAL's phase is not launched after another
 pub final-behind : (plan : Plan) (past : List Record) (first : Key) (keys : List Key) (key : Key) → count_of plan ≤ key.node → may_follow plan past (launch_of past first) ≡ true
     → may_follow plan (launched past (first ∷ keys)) (launch_of (launched past (first ∷ keys)) key) ≡ false
 final-behind plan past first keys key high follows = false_from_ne_true _ (λ h. go h)

@@ -1,4 +1,4 @@
--- While FINAL runs nothing else does, and behind an abort nothing but FINAL.
+-- While FINAL runs nothing else does, and after an abort nothing but FINAL.
 use Rattle.std.proofs.Common.{◌≡◌, ℕ, suc, ◌<◌, ◌≤◌, Bool, true, false, not, ◌&&◌, ◌||◌, List, [], ◌∷◌, ◌==◌, Option, Some, None, is_some, refl, sym, ap, ◌∙◌, arith, eqb-true, if◌then◌else◌}
 use Rattle.std.specs.Prelude.{nat_lt, nat_le}
 use Rattle.std.specs.List.{list_all}

@@ -1,4 +1,4 @@
--- Launches behind a launch change nothing of what is known of it.
+-- Launches after a launch change nothing of what is known of it.
 use Rattle.std.proofs.Common.{◌≡◌, ℕ, Bool, true, false, ◌&&◌, ◌||◌, List, [], ◌∷◌, ◌++◌, refl, sym, ap, ◌∙◌, ◌==◌, eqb-true, if◌then◌else◌}
 use Rattle.std.proofs.lemmas.Bool.{and_parts, false≢true, false_from_ne_true}
 use Rattle.std.specs.List.{list_all}
@@ -42,7 +42,7 @@ or-true : (a : Bool) → (a || true) ≡ true
 or-true true = refl
 or-true false = refl
 
--- behind launches a launch is outstanding
+-- after launches a launch is outstanding
 still-runs : (plan : Plan) (others past : List Record) (key : Key) (number : ℕ) → list_all is_launch others ≡ true
     → is_among key (outstanding plan (others ++ Launch key number ∷ past)) ≡ true
 still-runs plan [] past key number all = λ j. same-self key j || is_among key (outstanding plan past)

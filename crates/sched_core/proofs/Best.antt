@@ -191,7 +191,7 @@ best-none limits plan past b node = go (nat_lt node (suc (count_of plan))) refl
     go true e = b node (ltb-true node (suc (count_of plan)) e)
     go false e = let ge = ltb-false node (suc (count_of plan)) e in startable-past limits plan past node (omega arith)
 
--- one of two members stands before the other
+-- one of two members is before the other
 one-better : (plan : Plan) (node other : ℕ) → (IsBetter plan node other → ⊥) → (IsBetter plan other node → ⊥) → node ≡ other
 one-better plan node other not_before not_after =
     let p = (node_at plan node).priority in

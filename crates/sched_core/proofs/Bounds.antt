@@ -57,7 +57,7 @@ sum-twice : (f : ℕ → ℕ) (n : ℕ) → sum_below (λ k. 2 * f k) n ≡ 2 * 
 sum-twice f zero = omega arith
 sum-twice f (suc n) = let h = sum-twice f n in omega arith
 
--- one of two stands
+-- one of two holds
 pick : (P : MachineState → Type 0) (b : Bool) (s t : MachineState) → P s → P t → P (if b then s else t)
 pick P true s t p q = p
 pick P false s t p q = q
@@ -180,7 +180,7 @@ pre-after course es = pre-steps course (machine_before course 0 None false) es (
 next-less : (post x : ℕ) → (1 + post + x < 2 + post + x)
 next-less post x = omega arith
 
--- two less, where POST comes behind PRE
+-- two less, where POST comes after PRE
 post-less : (post x : ℕ) → (1 + x < 2 + post + x)
 post-less post x = omega arith
 
@@ -265,7 +265,7 @@ pub not-false : (b : Bool) → not b ≡ false → b ≡ true
 not-false true e = refl
 not-false false e = absurd cc
 
--- no phase comes behind an attempt of the abort value
+-- no phase comes after an attempt of the abort value
 unfoldable pub Quiet : Course → MachineState → Type 0
 Quiet course machine = (machine.phase ≡ None) ⊎ (setting_is_met course.abort_on machine.value ≡ false)
 

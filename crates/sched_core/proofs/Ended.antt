@@ -52,7 +52,7 @@ among-without key gone (other ∷ keys) = go (is_same gone other) refl (among-wi
         ∙ other-key (is_same key gone) (is_same key other) (is_among key keys)
         (λ a b. false≢true (sym s ∙ subst (λ k. is_same k other ≡ true) (same-eq key gone a) b))
 
--- records behind which the same may end as before, but for the phases of these endings
+-- records after which the same may end as before, but for the phases of these endings
 pub record IsBehind (plan : Plan) (past : List Record) (ends : List (Key × Outcome)) (now : List Record) : Type 0 where
   pub lawful : is_lawful plan now ≡ true
   pub begun : is_open now ≡ is_open past
@@ -73,7 +73,7 @@ nothing-behind plan past lawful = record {
     and_true true = refl
     and_true false = refl
 
--- behind one ending that does not abort the run
+-- after one ending that does not abort the run
 module _ (plan : Plan) (past : List Record) (lawful : is_lawful plan past ≡ true) (key : Key) (outcome : Outcome) (follows : may_follow plan past (End key outcome) ≡ true)
     (on : stops plan past (End key outcome) ≡ false) where
   abbrev now : List Record
@@ -179,7 +179,7 @@ behind plan past (end ∷ ends) lawful on =
     behind-more plan past lawful end.0 end.1 q.0 (not-true _ q.1) ends (added (End end.0 end.1 ∷ past) (ends_of ends))
     (behind plan (End end.0 end.1 ∷ past) ends (and_from _ _ lawful q.0) p.1)
 
--- an ordinary node whose abort value stands there once this is its ending
+-- an ordinary node whose abort value is there once this is its ending
 abbrev pub has_own : Plan → List Record → Key → Outcome → Bool
 has_own plan past key outcome = nat_lt key.node (count_of plan) && has_abort_value plan (End key outcome ∷ past) key.node
 
@@ -214,7 +214,7 @@ aborted-own plan past key outcome abort_free = go (nat_lt key.node (count_of pla
         ap not (each (λ node inside same. let e = eqb-true key.node node same in
         absurd (false≢true (sym ge ∙ lt-ltb key.node (count_of plan) (omega (arith, e, inside))))))
 
--- whether an ending may be recorded, and whether it aborts the run, behind others
+-- whether an ending may be recorded, and whether it aborts the run, after others
 module _ (plan : Plan) (past : List Record) (ends : List (Key × Outcome)) (now : List Record) (b : IsBehind plan past ends now) (key : Key) (outcome : Outcome) where
   pub follows-behind : may_follow plan now (End key outcome) ≡ (may_follow plan past (End key outcome) && not (is_among key (ended_in ends)))
   unfolding may_follow

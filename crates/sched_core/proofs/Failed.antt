@@ -1,4 +1,4 @@
--- How many nodes are in error behind a record.
+-- How many nodes are in error after a record.
 use Rattle.std.specs.Prelude.{ℕ, suc, List, if◌then◌else◌}
 use Rattle.node_machine.specs.NodeProgress.{NodeProgress}
 use Rattle.node_machine.specs.declared.Record.{Record}

@@ -146,7 +146,7 @@ most-one plan past (End key outcome) never = go (stops plan past (End key outcom
 pub least-one : (plan : Plan) (past : List Record) (entry : Record) → (entry ≡ Life → ⊥) → 1 ≤ most_looks plan past entry
 least-one plan past entry never = let most = most-one plan past entry never in omega (arith, most)
 
--- a life follows but behind Finish
+-- a life follows but after Finish
 pub life-follows : (plan : Plan) (past : List Record) (entry : Record) → entry ≡ Life → may_follow plan past entry ≡ not (is_over past)
 unfolding may_follow
 life-follows plan past entry is = ap (may_follow plan past) is

@@ -33,7 +33,7 @@ jobs-few (Launch key number ∷ past) = go (phase_number key.phase == 1) (jobs-f
     go true h = omega arith
     go false h = omega arith
 
--- what a core keeps of the nodes behind a record
+-- what a core keeps of the nodes after a record
 pub added-shown : (plan : Plan) (past now : List Record) (entry : Record) (runs runs' : List NodeProgress) (aborted flag : Bool) (jobs jobs' : ℕ)
     → Shows plan past runs aborted jobs → may_follow plan past entry ≡ true → runs' ≡ runs_after plan runs aborted entry → flag ≡ aborted_after plan runs aborted entry
     → jobs' ≡ jobs_after jobs entry → now ≡ entry ∷ past → Shows plan now runs' flag jobs'

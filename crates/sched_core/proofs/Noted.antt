@@ -66,14 +66,14 @@ step-later course machine (Some Post) outcome = closed-later course machine.atte
 abbrev standing : Plan → List Record → ℕ → MachineState
 standing plan past node = machine_after (node_at plan node).course (history past node)
 
--- what is launched is of the attempt where its node stands
+-- what is launched is of the attempt where its node is
 held-attempt : (plan : Plan) (past : List Record) → is_lawful plan past ≡ true → (key : Key) → Held plan past key → (standing plan past key.node).attempt ≡ key.attempt
 held-attempt plan past lawful key held =
     attempt-of (standing plan past key.node) (standing plan past key.node).phase key.attempt key.phase
     (sym (steps-next (node_at plan key.node).course (history past key.node) (histories-are plan past lawful key.node))
     ∙ (next-parts plan past key.node key held.is_next).1)
 
--- no node has been launched beyond where it stands
+-- no node has been launched beyond where it is
 reached : (plan : Plan) (past : List Record) → is_lawful plan past ≡ true → (node : ℕ) → newest_launch_attempt past node ≤ (standing plan past node).attempt
 reached plan [] h node = omega arith
 reached plan (Life ∷ past) h node = reached plan past (and_parts _ _ h).0 node

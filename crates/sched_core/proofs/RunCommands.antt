@@ -35,7 +35,7 @@ facts_by course column attempt =
     plain_facts (job_value_of course (column attempt Pre) (ends_with course Job (column attempt Job)))
     (pre_value_of course (column attempt Pre))
 
--- the values of the job and of PRE behind these phases, and those by the outcomes of a column
+-- the values of the job and of PRE after these phases, and those by the outcomes of a column
 module _ (course : Course) (es : List Ended) (column : ℕ → Phase → Outcome) (told : Told (masked course column) es) (i : ℕ) where
   job-value : has_ended es i Job ≡ true → value_of (outcome_in es i Job) ≡ value_of (ends_with course Job (column i Job))
   job-value ended = ap value_of (told-outcome (masked course column) es i Job told ended)

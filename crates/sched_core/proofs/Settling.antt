@@ -129,7 +129,7 @@ none-members plan old new are none room = record {
   room = let had = are.room in let now = ap (λ (l : List Member). length l) none in omega (arith, had, now, room);
 }
 
--- behind an abort nothing is ready
+-- after an abort nothing is ready
 pub cleared : (plan : Plan) (runs : List NodeProgress) (left : List ℕ) (classed : Classed) → AreMembers plan classed.queue → classed.queue.members ≡ [] → classed.counts ≡ replicate (classes_of plan) 0
     → IsQueued plan true runs left classed
 cleared plan runs left classed are none counts = record {
@@ -203,7 +203,7 @@ filled-queued plan runs left n classed all filled = record {
   counted = λ k. filled.counted k ∙ ap (sum_below (share_at plan false runs left k)) all;
 }
 
--- elements behind one more
+-- elements after one more
 pub at-before : {A : Type 0} (xs : List A) (x d : A) (k : ℕ) → k < length xs → unwrap_or (slice_get (xs ++ x ∷ []) k) d ≡ unwrap_or (slice_get xs k) d
 at-before [] x d k lt = absurd (omega arith)
 at-before (y ∷ ys) x d zero lt = refl

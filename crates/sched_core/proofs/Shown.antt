@@ -50,7 +50,7 @@ module _ (plan : Plan) (past : List Record) (lawful : is_lawful plan past ≡ tr
   pub machine-attempts : attempts_ended machine ≡ attempts_in plan past node
   machine-attempts = sym (steps-ended (node_at plan node).course (history past node) (histories-are plan past lawful node))
 
--- the phase that comes next stands there
+-- the phase that comes next is there
 pub next-phase : (plan : Plan) (past : List Record) → is_lawful plan past ≡ true → (key : Key) → next plan past key.node ≡ Some key
     → (machine_after (node_at plan key.node).course (history past key.node)).phase ≡ Some key.phase
 next-phase plan past lawful key is =
@@ -58,7 +58,7 @@ next-phase plan past lawful key is =
     (sym (steps-next (node_at plan key.node).course (history past key.node) (histories-are plan past lawful key.node))
     ∙ (next-parts plan past key.node key is).1)
 
--- the stands of these records tell the abort
+-- the states of these records show the abort
 pub aborted-is : (plan : Plan) (past : List Record) → is_lawful plan past ≡ true → (runs : List NodeProgress)
     → ((node : ℕ) → node < suc (count_of plan) → (run_at runs node).machine ≡ machine_after (node_at plan node).course (history past node))
     → aborted_in plan runs ≡ is_aborted plan past

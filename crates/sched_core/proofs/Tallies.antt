@@ -203,7 +203,7 @@ module _ (plan : Plan) (past : List Record) (lawful : is_lawful plan past ≡ tr
           let own : has_abort_value plan now key.node ≡ false = (λ j. sym (lt-ltb key.node (count_of plan) (omega (arith, is, lt))) j && has_abort_value plan now key.node) ∙ f in
           subst (λ m. has_abort_value plan now m ≡ has_abort_value plan past m) is (own ∙ sym own-abort_free)
 
--- the counts behind a record
+-- the counts after a record
 pub tallied-next : (plan : Plan) (past now : List Record) (entry : Record) (runs : List NodeProgress) (aborted : Bool) (jobs done done' status status' : ℕ) → is_lawful plan past ≡ true
     → IsTallied plan past done status → may_follow plan past entry ≡ true → now ≡ entry ∷ past → Shows plan now runs aborted jobs
     → done' ≡ (if done_by plan runs entry then suc done else done) → status' ≡ (if has_abort_by plan runs entry then stop_status plan status entry else status)

@@ -118,7 +118,7 @@ module _ (plan : Plan) (planned : IsPlanned plan) (runs : List NodeProgress) (le
   own-done : done_at plan (slice_set runs node run) node ≡ ((node_at plan node).done || (is_none run.machine.phase && run.machine.good))
   own-done = ap (λ (r : NodeProgress). (node_at plan node).done || (is_none r.machine.phase && r.machine.good)) (run_at-same runs node run (omega (arith, w, many)))
 
-  -- where the node whose phase ended is not done behind it
+  -- where the node whose phase ended is not done after it
   pub left-ended : (aborted aborted' : Bool) → AreLeft plan aborted runs left → (aborted' ≡ false → aborted ≡ false) → (aborted ≡ false → node < count_of plan → l ≡ left_at left node)
       → (nat_lt node (count_of plan) && ((node_at plan node).done || (is_none run.machine.phase && run.machine.good))) ≡ false
       → AreLeft plan aborted' (slice_set runs node run) (slice_set left node l)
@@ -261,7 +261,7 @@ count-step init now items i child l is lt w less before k = by_same child k
     let at : left_at (slice_set now child l) k ≡ left_at now k = at-other now child l 0 k ne in
     omega (arith, b, d, o, at))
 
--- a place behind all nodes is FINAL's, where there is none
+-- a place after all nodes is FINAL's, where there is none
 pub past-all : (plan : Plan) (n k : ℕ) → node_total plan ≤ n → n ≤ k → k < suc (count_of plan) → (is_some plan.final_node ≡ false) × (count_of plan ≡ k)
 past-all plan n k all le lt = go (is_some plan.final_node) refl all
   where
@@ -269,7 +269,7 @@ past-all plan n k all le lt = go (is_some plan.final_node) refl all
     go true e a = absurd (omega (arith, a, le, lt))
     go false e a = (e, omega (arith, a, le, lt))
 
--- how the node stands whose phase ended, where others are stopped and where none is
+-- how the node is whose phase ended, where others are stopped and where none is
 pub turned-machine : (runs now : List NodeProgress) (node : ℕ) (run : NodeProgress) (stops : Bool) → node < length runs
     → now ≡ (if stops then map stopped (slice_set runs node run) else slice_set runs node run) → (run_at now node).machine ≡ run.machine
 turned-machine runs now node run stops w is = ap (λ (rs : List NodeProgress). (run_at rs node).machine) is ∙ go stops

@@ -44,7 +44,7 @@ ended-still (e ∷ es) more i phase h = go (is_phase e i phase) h (ended-still e
     go true h rest = refl
     go false h rest = rest h
 
--- behind these phases the tree asks for each phase after those that come before it in its attempt
+-- after these phases the tree asks for each phase after those that come before it in its attempt
 abbrev AsksInOrder : Course → List Ended → Tree → Type 0
 AsksInOrder course es (Over attempts) = Unit {0}
 AsksInOrder course es (Ask i phase next) =
@@ -96,7 +96,7 @@ order-from course done i (suc left) es =
     order-attempt course i (λ a. if is_final_attempt course a then Over (done ++ a ∷ []) else tree_from course (done ++ a ∷ []) (suc i) left)
     (λ a es. one_of (AsksInOrder course es) (is_final_attempt course a) tt (order-from course (done ++ a ∷ []) (suc i) left es)) es
 
--- what the tree asks for behind what was played
+-- what the tree asks for after what was played
 order-played : (course : Course) (tree : Tree) (es before : List Ended) (i : ℕ) (phase : Phase) (next : Outcome → Tree)
     → AsksInOrder course before tree → Plays tree es → after tree es ≡ Ask i phase next → HasBefore course (before ++ es) i phase
 order-played course tree [] before i phase next o p h =
@@ -133,7 +133,7 @@ pre-kept course column i = go course.noop
     go true = refl
     go false = refl
 
--- no attempt comes behind the last that is allowed
+-- no attempt comes after the last that is allowed
 pub turn-allowed : (course : Course) (es : List Ended) → is_history course es ≡ true → (next : ℕ × Phase) → next_after course es ≡ Some next → next.0 ≤ course.retries
 turn-allowed course es h next n = go (machine_after course es).phase refl
   where

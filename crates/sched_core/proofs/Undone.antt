@@ -39,7 +39,7 @@ undone-same f g n same (x ∷ xs) low =
     let l = and_parts _ _ low in
     λ j. (if same x (ltb-true x n l.0) j then 0 else 1) + undone-same f g n same xs l.1 j
 
--- one node is done that was not: each time that it stands there counts one less
+-- one node is done that was not: each time that it is there counts one less
 pub undone-less : (f g : ℕ → Bool) (k : ℕ) → ((m : ℕ) → (k == m) ≡ false → g m ≡ f m) → f k ≡ false → g k ≡ true → (xs : List ℕ) → undone_in g xs + times k xs ≡ undone_in f xs
 undone-less f g k same was now [] = refl
 undone-less f g k same was now (x ∷ xs) = go (k == x) refl (undone-less f g k same was now xs)
@@ -59,7 +59,7 @@ undone-less f g k same was now (x ∷ xs) = go (k == x) refl (undone-less f g k 
         step true = let q : (0 + undone_in g xs) + (0 + times k xs) ≡ 0 + undone_in f xs = omega (arith, h) in q
         step false = let q : (1 + undone_in g xs) + (0 + times k xs) ≡ 1 + undone_in f xs = omega (arith, h) in q
 
--- a number of a range stands once among those that pass a test, if it does
+-- a number of a range is once among those that pass a test, if it does
 times-range : (q : ℕ → Bool) (x from n : ℕ) → (x < from) → times x (filter q (range_with_len from n)) ≡ 0
 times-range q x from zero lt = refl
 times-range q x from (suc n) lt = go (q from) (times-range q x (from + 1) n (omega (arith, lt)))

@@ -1,4 +1,4 @@
--- Phases that are launched one after another, and records that are added together: what stands once the earlier ones do.
+-- Phases that are launched one after another, and records that are added together: what holds once the earlier ones do.
 use Rattle.std.specs.Prelude.{◌≡◌, ℕ, Bool, true, ◌&&◌, List, [], ◌∷◌, length, map, Option, Some, None, if◌then◌else◌}
 use Rattle.node_machine.specs.declared.Key.{Key}
 use Rattle.node_machine.specs.declared.Outcome.{Outcome}

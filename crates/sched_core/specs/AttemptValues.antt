@@ -12,7 +12,7 @@ pre_value_of course outcome = if course.pre then value_of outcome else negsuc 0
 abbrev pub is_without_job : Course → Outcome → Bool
 is_without_job course pre = course.pre && not (is_exit_0 pre)
 
--- the value of the job, where PRE and it have these outcomes; -1004 where no job runs behind a failed PRE
+-- the value of the job, where PRE and it have these outcomes; -1004 where no job runs after a failed PRE
 abbrev pub job_value_of : Course → Outcome → Outcome → ℤ
 job_value_of course pre job = if is_without_job course pre then negsuc 1003 else value_of job
 

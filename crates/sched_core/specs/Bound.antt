@@ -37,7 +37,7 @@ has_no_life [] = true
 has_no_life (Life ∷ past) = false
 has_no_life (_ ∷ past) = has_no_life past
 
--- of an attempt: this phase and those behind it, as far as there are such
+-- of an attempt: this phase and those after it, as far as there are such
 abbrev pub phases_from : Course → Phase → ℕ
 phases_from course Pre = phases_in course
 phases_from course Job = 1 + (if course.post then 1 else 0)
@@ -52,7 +52,7 @@ phases_left course attempt (Some phase) = phases_from course phase + phases_in c
 abbrev pub records_to_come : NodeProgress → ℕ
 records_to_come run = 2 * phases_left run.course run.machine.attempt run.machine.phase - (if run.running then 1 else 0)
 
--- a node can still have phases: it is not done from the start, and behind an abort it is FINAL
+-- a node can still have phases: it is not done from the start, and after an abort it is FINAL
 abbrev pub may_still_run : Plan → List Record → ℕ → Bool
 may_still_run plan past node =
     not (node_at plan node).done && (if nat_lt node (count_of plan) then not (is_aborted plan past) else is_some plan.final_node)

@@ -41,7 +41,7 @@ newest_launch (Launch other number ∷ past) key = if is_same other key then num
 newest_launch (_ ∷ past) key = newest_launch past key
 
 -- What the records say when a key is launched, its launch among them. A job that did not end has the value 0, and -1004
--- behind a failed PRE, where it does not run.
+-- after a failed PRE, where it does not run.
 abbrev pub facts_in : Plan → List Record → Key → PhaseFacts
 facts_in plan records key = record {
   launch = newest_launch records key;

@@ -48,13 +48,13 @@ idle = record { course = no_node.course; machine = machine_before no_node.course
 abbrev pub run_at : List NodeProgress → ℕ → NodeProgress
 run_at runs node = unwrap_or (slice_get runs node) idle
 
--- whether an ordinary node's abort value stands there
+-- whether an ordinary node's abort value is there
 abbrev pub aborted_in : Plan → List NodeProgress → Bool
 aborted_in plan runs =
     not (all_below (λ node. not (setting_is_met (node_at plan node).course.abort_on (run_at runs node).machine.value))
     (count_of plan))
 
--- an ordinary node's abort value stands there
+-- an ordinary node's abort value is there
 abbrev pub has_abort_at : Plan → List NodeProgress → ℕ → Bool
 has_abort_at plan runs node =
     nat_lt node (count_of plan) && setting_is_met (node_at plan node).course.abort_on (run_at runs node).machine.value

@@ -89,7 +89,7 @@ abort_run = chronological (
     Life ∷ Launch (key 0 0 Job) 1 ∷ Launch (key 1 0 Job) 2 ∷ End (key 0 0 Job) (Exit 7)
     ∷ Launch (key 2 0 Job) 3 ∷ End (key 2 0 Job) (Exit 0) ∷ Finish 0 ∷ [])
 
--- A is a NOOP with both scripts, B is done from the start, C stands below B
+-- A is a NOOP with both scripts, B is done from the start, C is below B
 abbrev pub noop_plan : Plan
 noop_plan = record {
   nodes =
@@ -111,7 +111,7 @@ noop_run = chronological (
     Life ∷ Launch (key 0 0 Pre) 0 ∷ Launch (key 2 0 Job) 1 ∷ End (key 0 0 Pre) (Exit 0) ∷ Launch (key 0 0 Job) 2
     ∷ End (key 0 0 Job) (Exit 0) ∷ Launch (key 0 0 Post) 0 ∷ End (key 0 0 Post) (Exit 2) ∷ End (key 2 0 Job) (Exit 0) ∷ Finish 1 ∷ [])
 
--- A has both scripts, and POST runs behind a failed PRE; B stands below A
+-- A has both scripts, and POST runs after a failed PRE; B is below A
 abbrev pub always_plan : Plan
 always_plan = record {
   nodes =
@@ -139,7 +139,7 @@ plan_p = record {
   always_post = false;
 }
 
--- the same A and B behind X
+-- the same A and B after X
 abbrev pub plan_q : Plan
 plan_q = record {
   nodes = node 88 (job_alone 2 false) false [] ∷ node 65 (job_alone 0 false) false [] ∷ node 66 (job_alone 1 false) false (1 ∷ []) ∷ [];

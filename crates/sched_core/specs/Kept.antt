@@ -21,7 +21,7 @@ pub record IsKept (plan : Plan) (past : List Record) (states : NodeStates) (abor
   pub left : AreLeft plan aborted states.runs states.left
   pub queued : IsQueued plan aborted states.runs states.left queue
 
--- a node's place, and FINAL's for what stands behind it
+-- a node's place, and FINAL's for what comes after it
 abbrev pub own_place : Plan → ℕ → ℕ
 own_place plan node = if nat_lt node (count_of plan) then node else count_of plan
 

@@ -12,7 +12,7 @@ abbrev pub stops : Plan → List Record → Record → Bool
 stops plan past entry = is_aborted plan (entry ∷ past) && not (is_aborted plan past)
 
 -- The most states that are looked at where a record is applied: one at a launch and at the end of the run; at the end of a
--- phase that of its node, those of the node's children and one more; all behind a life and at an abort.
+-- phase that of its node, those of the node's children and one more; all after a life and at an abort.
 abbrev pub most_looks : Plan → List Record → Record → ℕ
 most_looks plan past Life = node_total plan
 most_looks plan past (Launch key number) = 1

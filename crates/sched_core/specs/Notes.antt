@@ -80,7 +80,7 @@ notes_after notes (Launch key number) = slice_set notes key.node (with_launch (n
 notes_after notes (End key outcome) = slice_set notes key.node (with_phase_outcome (notes_at notes key.node) key.phase outcome)
 notes_after notes (Finish status) = notes
 
--- the facts of a launch, by what is noted of its attempt; a job that did not end has the value 0, and -1004 behind a failed PRE
+-- the facts of a launch, by what is noted of its attempt; a job that did not end has the value 0, and -1004 after a failed PRE
 abbrev pub noted_facts : Course → AttemptNotes → Bool → ℕ → PhaseFacts
 noted_facts course notes aborted failed = record {
   launch = notes.launch;

@@ -9,7 +9,7 @@ use Rattle.sched_core.specs.Notes.{notes_at, notes_of, AreNotes}
 use Rattle.sched_core.specs.Run.{is_aborted, is_done}
 use Rattle.node_machine.specs.declared.Record.{Record}
 
--- of each node, FINAL's place behind the others, how it stands, what is noted of its newest attempt, and how many of its
+-- of each node, FINAL's place after the others, how it is, what is noted of its newest attempt, and how many of its
 -- parents are not done; and how many states were lent
 pub record NodeStates : Type 0 where
   pub runs : List NodeProgress
@@ -30,7 +30,7 @@ abbrev pub undone_in : (ℕ → Bool) → List ℕ → ℕ
 undone_in done [] = 0
 undone_in done (node ∷ nodes) = (if done node then 0 else 1) + undone_in done nodes
 
--- an ordinary node, of which it is given whether it is done from the start, may be launched where it stands so and so many of its
+-- an ordinary node, of which it is given whether it is done from the start, may be launched where it is so and so many of its
 -- parents are not done
 abbrev pub is_ready_by : Bool → Bool → NodeProgress → ℕ → Bool
 is_ready_by done aborted run left =

@@ -11,7 +11,7 @@ use Rattle.sched_core.specs.Notes.{notes_at}
 use Rattle.sched_core.specs.Run.{setting_is_met}
 use Rattle.sched_core.specs.States.{NodeStates, left_at, done_at}
 
--- how often a number stands among these
+-- how often a number is among these
 abbrev pub times : ℕ → List ℕ → ℕ
 times x [] = 0
 times x (y ∷ ys) = (if x == y then 1 else 0) + times x ys
@@ -49,7 +49,7 @@ IsOfTurn plan aborted runs (Launch key number) = Unit {0}
 IsOfTurn plan aborted runs (End key outcome) = IsEnding plan aborted runs key.node
 IsOfTurn plan aborted runs (Finish status) = Unit {0}
 
--- what an ordinary node comes to where it stands so
+-- what an ordinary node comes to where it is so
 abbrev pub turn_of : Plan → ℕ → NodeProgress → Turn
 turn_of plan node run = record {
   aborts = nat_lt node (count_of plan) && setting_is_met (node_at plan node).course.abort_on run.machine.value;

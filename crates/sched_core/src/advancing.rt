@@ -22,7 +22,7 @@ use run_plan::Plan;
 /// What the end of a phase makes of its node.
 #[derive(Clone, Copy)]
 pub struct Turn {
-    /// an ordinary node whose abort value stands there
+    /// an ordinary node whose abort value is there
     pub aborts: bool,
     /// an ordinary node that is done
     pub is_done: bool,

@@ -49,7 +49,7 @@ pub fn examples()
     ensures noop_outcomes { IsRunBy noop_plan noop_table noop_run }
     ensures noop_sound { is_expandable (node_at noop_plan 0) ≡ true }
     ensures noop_plain { uses_whole_run (node_at noop_plan 0) ≡ false }
-    // Behind a PRE that failed, POST's value is the attempt's, and its words tell that no job ran.
+    // After a PRE that failed, POST's value is the attempt's, and its words tell that no job ran.
     ensures always { IsTrue (is_finished always_plan always_run) }
     ensures always_values { map (λ node. (shown always_plan always_run node).value)
         (0 ∷ 1 ∷ []) ≡ Some (pos 0) ∷ Some (pos 0) ∷ [] }

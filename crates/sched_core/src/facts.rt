@@ -37,7 +37,7 @@ fn is_without_job(spec: &NodeSpec, pre: Outcome) -> bool
     spec.course().pre && !matches!(pre, Outcome::Exit(0))
 }
 
-/// The value of the job, where PRE and it have these outcomes; -1004 where no job runs behind a PRE
+/// The value of the job, where PRE and it have these outcomes; -1004 where no job runs after a PRE
 /// script that failed.
 fn job_value(spec: &NodeSpec, pre: Outcome, job: Outcome) -> i32
     ensures { result ≡ job_value_of spec.now.course pre job }

@@ -22,7 +22,7 @@ ghost use Rattle.sched_core.specs.Rounds.{Round, AreRounds, AreCalm, RoundsAgree
 ghost use Rattle.sched_core.specs.Example.{key};
 ghost use Rattle.node_machine.specs.declared.Key.{Key};
 
-/// At every moment each node has the beginning of its story behind it, and only nodes whose parents
+/// At every moment each node has gone through the beginning of its story, and only nodes whose parents
 /// are done have begun.
 pub fn histories()
     ensures prefix { (plan : Plan) (records : List Record) → IsTrue (is_lawful plan records) →
@@ -79,7 +79,7 @@ pub fn launches()
         phase_command (node_at plan key.node) key.attempt key.phase
         (facts_in plan (Launch key number ∷ past) key)
         ≡ command_by plan table key.node key.attempt key.phase }
-    // Launches behind it change nothing of what is known of a launch: several may be recorded, and then be handed over.
+    // Launches after it change nothing of what is known of a launch: several may be recorded, and then be handed over.
     ensures together { (plan : Plan) (others past : List Record) (key : Key) (number : ℕ) →
         IsTrue (is_lawful plan (others ++ Launch key number ∷ past)) → IsTrue (list_all is_launch others) →
         facts_in plan (others ++ Launch key number ∷ past) key ≡ facts_in plan (Launch key number ∷ past) key }
@@ -166,7 +166,7 @@ pub fn choices()
         IsChoice limits plan past (choices.Finish status) → IsTrue (may_follow plan past (Finish status)) }
 {}
 
-/// What is written begins with the oldest record, each newer one stands behind it, and read from the
+/// What is written begins with the oldest record, each newer one comes after it, and read from the
 /// end it is the run's records again.
 pub fn writing()
     ensures none { chronological [] ≡ [] }
@@ -176,7 +176,7 @@ pub fn writing()
 {}
 
 /// In a lawful list the phases of a node that ended are a history: each is the next of the node's
-/// story behind those before.
+/// story after those before.
 pub fn ended_phases()
     ensures { (plan : Plan) (records : List Record) → IsTrue (is_lawful plan records) →
         (node : ℕ) → IsTrue (is_history (node_at plan node).course (history records node)) }

@@ -195,7 +195,7 @@ impl ClassedQueue {
         count(&mut self.counts, now, class);
     }
 
-    /// Takes all members out: behind an abort no node may start.
+    /// Takes all members out: after an abort no node may start.
     pub fn clear(&mut self, plan: &Plan)
         requires are { AreMembers plan.now self.old.queue }
         requires many { length self.old.counts ≡ classes_of plan.now }

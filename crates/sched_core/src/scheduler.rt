@@ -37,7 +37,7 @@ use std::alloc::Global;
 use std::marker::Model;
 use throttles::{Limits, Throttles};
 
-/// A run of a plan: its records, and where each node stands.
+/// A run of a plan: its records, and where each node is.
 pub struct Core<'a> {
     plan: &'a Plan,
     records: Vec<Record>,
@@ -54,7 +54,7 @@ pub struct Core<'a> {
     queue: ClassedQueue,
 }
 
-// Each function that lets a value go calls this; a derived drop stands in each, part by part.
+// Each function that drops a value calls this; a derived drop would be in each, part by part.
 impl Drop for Core<'_> {
     fn drop(self) {
         let Core {
@@ -776,7 +776,7 @@ impl<'a> Core<'a> {
         }
     }
 
-    /// Counts one launch more behind these.
+    /// Counts one launch more after these.
     fn count_launch(&self, keys: &[Key], throttles: &mut Throttles, key: Key)
         requires node { key.node < count_of self.now.plan }
         requires counted { throttles.old ≡ throttled_in self.now.limits self.now.plan

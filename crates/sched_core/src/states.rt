@@ -37,7 +37,7 @@ impl Looked {
     }
 }
 
-/// The states of a plan's nodes, and of the FINAL node's place behind them.
+/// The states of a plan's nodes, and of the FINAL node's place after them.
 ///
 /// A state is changed only by `look` and `put`, and each `look` counts.
 #[derive(Drop)]
@@ -137,7 +137,7 @@ impl States {
         Looked { node, state }
     }
 
-    /// Takes a node's state back, as it stands now.
+    /// Takes a node's state back, as it is now.
     pub fn put(&mut self, looked: Looked)
         requires runs { looked.node < length self.old.runs }
         requires notes { looked.node < length self.old.notes }

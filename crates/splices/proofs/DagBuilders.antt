@@ -95,7 +95,7 @@ behind_joined : (front first : Forest) (r : Result Forest DagFault) → behind f
 behind_joined front first (Ok others) = ap (λ (f : Forest). Ok f) (sym (joined_assoc front first others))
 behind_joined front first (Err e) = refl
 
--- what is still opened behind some files
+-- what is still opened after some files
 abbrev pub rest_at : Opener → Used → List (List ℕ) → List ℕ → List Command → ℕ → Forest → Result Forest DagFault
 rest_at opener used above folder cs i front = behind front (open_lines opener (with_forest used front) above folder (drop i cs))
 

@@ -56,7 +56,7 @@ pub changed_length : (r : ℕ → Bool) (change : FlatNode → FlatNode) (place 
 changed_length r change place [] = refl
 changed_length r change place (n ∷ ns) = ap suc (changed_length r change (place + 1) ns)
 
--- one more place is reached, the one at j behind the first
+-- one more place is reached, the one at j after the first
 changed_one : (from k j : ℕ) (change : FlatNode → FlatNode) (place : ℕ) (ns : List FlatNode) (d : FlatNode) → place + j ≡ k → from ≤ k → j < length ns → changed_where (is_between from (k + 1)) change place ns ≡ slice_set (changed_where (is_between from k) change place ns) j (change (get_or ns j d))
 changed_one from k j change place [] d e le lt = absurd (omega arith)
 changed_one from k zero change place (n ∷ ns) d e le lt =

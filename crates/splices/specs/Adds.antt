@@ -25,7 +25,7 @@ pub record AddsFiles (old new : DagBuilder) (files : List OpenFile) : Type 0 whe
   pub finals : new.finals.items ≡ old.finals.items ++ flat_map final_nodes files
   pub warned : new.warned ≡ warn_files old.warned files
 
--- the files of a forest were added, with the edges behind those before
+-- the files of a forest were added, with the edges after those before
 pub record AddsForest (prefix : List ℕ) (old new : DagBuilder) (forest : Forest) : Type 0 where
   pub files : AddsFiles old new (forest_files prefix forest)
   pub edges : new.edges.items ≡ old.edges.items ++ forest_edges (length old.nodes.items) forest

@@ -15,7 +15,7 @@ pub(crate) struct Names {
     pub(crate) splices: NameTable,
 }
 
-// Each function that lets a value go calls this; a derived drop stands in each, part by part.
+// Each function that drops a value calls this; a derived drop would be in each, part by part.
 impl Drop for Names {
     fn drop(self) {
         let Names {

@@ -51,7 +51,7 @@ impl Notice {
 }
 
 /// The notices of lines, in the order in which each was added first. A contract sees the list of
-/// them, none of which stands there twice.
+/// them, none of which is there twice.
 #[derive(Drop)]
 pub(crate) struct Notices {
     notices: IndexSet<Notice>,

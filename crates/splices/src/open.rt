@@ -41,7 +41,7 @@ pub(crate) struct DagBuilder {
     pub(crate) used: Used,
 }
 
-// Each function that lets a value go calls this; a derived drop stands in each, part by part.
+// Each function that drops a value calls this; a derived drop would be in each, part by part.
 impl Drop for DagBuilder {
     fn drop(self) {
         let DagBuilder {
@@ -361,7 +361,7 @@ fn first_fault(
     check.lines(alloc, lines)
 }
 
-/// What stands before the names in a splice: the prefix of the file that holds its line, the
+/// What is before the names in a splice: the prefix of the file that holds its line, the
 /// splice's name and a plus.
 fn names_in(alloc: Global, prefix: &str, name: &str) -> Result<Text, AllocError>
     ensures { IfOk result (λ names. names ≡ inside prefix.now name.now) }

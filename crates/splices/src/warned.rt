@@ -19,7 +19,7 @@ pub(crate) struct Warned {
     notices: Notices,
 }
 
-// Each function that lets a value go calls this; a derived drop stands in each, part by part.
+// Each function that drops a value calls this; a derived drop would be in each, part by part.
 impl Drop for Warned {
     fn drop(self) {
         let Warned {

@@ -1,4 +1,4 @@
--- Where a node stands in a run.
+-- Where a node is in a run.
 use Rattle.std.specs.Prelude.{ℕ, Bool, List, [], ◌∷◌, Option, Some, None, is_none, nat_lt, ◌==◌, if◌then◌else◌}
 use Rattle.std.specs.List.{list_all}
 use Rattle.node_machine.specs.declared.Phase.{Phase}
@@ -34,7 +34,7 @@ abbrev pub status_by : Option Phase → Bool → Status
 status_by None due = if due then Ready else NotReady
 status_by (Some phase) due = running_status phase
 
--- Where a node stands: it is done, or no phase of it is to come, or the phase that is outstanding, or whether it is due. An
+-- Where a node is: it is done, or no phase of it is to come, or the phase that is outstanding, or whether it is due. An
 -- abort makes no node less due.
 abbrev pub status_at : Plan → List Record → ℕ → Status
 status_at plan past node =
@@ -42,7 +42,7 @@ status_at plan past node =
     else if is_none (next plan past node) then Error
     else status_by (phase_of node (outstanding plan past)) (is_due plan past node)
 
--- where a node stands that came to this state, with nothing running: one that has not run waits
+-- where a node is that came to this state, with nothing running: one that has not run waits
 abbrev pub status_of_state : State → Status
 status_of_state state.Done = Done
 status_of_state state.Error = Error

@@ -38,7 +38,7 @@ abbrev pub lines_of : Plan → List Record → ℕ → List ℕ
 lines_of plan past zero = []
 lines_of plan past (suc n) = lines_of plan past n ++ node_line plan past n
 
--- the nodes that have a line: the ordinary ones, and the FINAL node behind them
+-- the nodes that have a line: the ordinary ones, and the FINAL node after them
 abbrev pub reported : Plan → ℕ
 reported plan = if is_some plan.final_node then suc (count_of plan) else count_of plan
 

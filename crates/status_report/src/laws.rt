@@ -10,7 +10,7 @@ ghost use Rattle.sched_core.specs.Lives.{IsRunBy};
 ghost use Rattle.status_report.specs.Status.{status_at, status_of_state};
 ghost use Rattle.status_report.specs.Text.{lines_of, reported, status_text_of, fate_lines};
 
-/// In a finished run nothing runs, and without abort nothing is ready: each node stands as what the
+/// In a finished run nothing runs, and without abort nothing is ready: each node is as what the
 /// records show of it. The FINAL node, where there is one, does so with abort too.
 pub fn finished_runs()
     ensures status { (plan : Plan) (past : List Record) → IsTrue (is_finished plan past) →

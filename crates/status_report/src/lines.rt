@@ -24,7 +24,7 @@ pub fn status_word(status: Status) -> &'static str
     }
 }
 
-/// Adds the line of a node: its name, where it stands, how many of its attempts ended, and the value
+/// Adds the line of a node: its name, where it is, how many of its attempts ended, and the value
 /// of the last one.
 pub fn push_line(
     text: &mut String,
@@ -75,7 +75,7 @@ pub fn reported(core: &Core<'_>) -> u32
 /// FINAL node last. n is how many attempts ended, v the value of the last of them, or `-`.
 ///
 /// # Errors
-/// Want of memory, and nothing else.
+/// Lack of memory, and nothing else.
 pub fn status_text(alloc: Global, core: &Core<'_>) -> Result<String, AllocError>
     ensures { IfOk result (λ text. string_bytes text ≡ status_text_of core.now.plan core.now.past) }
 {
@@ -89,7 +89,7 @@ pub fn status_text(alloc: Global, core: &Core<'_>) -> Result<String, AllocError>
 /// What a run prints that ends with this status: its status text, and `result N`.
 ///
 /// # Errors
-/// Want of memory, and nothing else.
+/// Lack of memory, and nothing else.
 pub fn run_text(alloc: Global, core: &Core<'_>, status: Verdict) -> Result<String, AllocError>
     ensures { IfOk result (λ text. string_bytes text ≡ run_text core.now.plan core.now.past status) }
 {

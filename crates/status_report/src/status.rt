@@ -1,4 +1,4 @@
-//! Where a node stands in a run.
+//! Where a node is in a run.
 
 ghost use Rattle.std.specs.Prelude.{◌≡◌, ◌≤◌};
 ghost use Rattle.run_plan.specs.Plan.{count_of};
@@ -8,7 +8,7 @@ ghost use Rattle.status_report.specs.Status.{phase_of, running_status, is_due, s
 use node_machine::{Phase, State};
 use sched_core::Core;
 
-/// Where a node stands in a run.
+/// Where a node is in a run.
 #[derive(Clone, Copy, Debug, PartialEq, Eq)]
 pub enum Status {
     /// It is done, from the start or after a good last attempt.
@@ -65,7 +65,7 @@ fn is_due(core: &Core<'_>, node: u32) -> bool
     }
 }
 
-/// Where a node stands. It takes no memory.
+/// Where a node is. It takes no memory.
 pub fn status_at(core: &Core<'_>, node: u32) -> Status
     requires { node ≤ count_of core.now.plan }
     ensures { result ≡ status_at core.now.plan core.now.past node }

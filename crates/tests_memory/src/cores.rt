@@ -56,7 +56,7 @@ static TWO_CRASHES: [Record; 14] = [
     Record::Finish(0),
 ];
 
-/// A is above B, which is tried twice, and Y stands beside them; and how their jobs end.
+/// A is above B, which is tried twice, and Y is beside them; and how their jobs end.
 static TRIED_TWICE: &str = "JOB A a.sub\nJOB B b.sub\nJOB Y y.sub\nPARENT A CHILD B\nRETRY B 1\n";
 
 static OUTCOMES: &[u8] =

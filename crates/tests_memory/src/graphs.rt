@@ -62,7 +62,7 @@ fn add_line(alloc: Global, files: &mut FileSet, file: File) -> Result<String, Al
     }
 }
 
-// The set of these files, of which each is added once more where memory is wanting.
+// The set of these files, of which each is added once more where memory is out.
 fn added(rt: HostRuntime, all: &[File]) -> Result<FileSet> {
     let mut files = FileSet::new(rt.alloc());
     for file in all {
@@ -124,7 +124,7 @@ fn ancestor_line(alloc: Global, graph: &Graph, pair: (&str, &str)) -> Result<Str
     }
 }
 
-/// What stands in rescue files of the diamond.
+/// What is in rescue files of the diamond.
 static RESCUES: [&str; 3] = ["DONE B\ndone A\n", "DONE Q\n", "RETRY A 1\n"];
 
 fn read_line(alloc: Global, graph: &Graph, text: &str) -> Result<String, AllocError> {

@@ -1,4 +1,4 @@
-//! Lives of a manager over a disk in memory: each call that is refused memory is made once more, and behind a fault of the disk
+//! Lives of a manager over a disk in memory: each call that is refused memory is made once more, and after a fault of the disk
 //! another life goes on.
 ghost use Rattle.std.specs.Prelude.{◌<◌, ◌≤◌, IfOk, length};
 ghost use Rattle.recovery_manager.specs.Managed.{plan_of, past_of};

@@ -1,5 +1,5 @@
 //! Makes calls of the libraries, row after row, and prints what each comes to. A test refuses one allocation a run: the call says
-//! that memory is wanting, nothing has changed, and the same call, made once more, gives what it gives else. By the word
+//! that memory is out, nothing has changed, and the same call, made once more, gives what it gives else. By the word
 //! `first_life` it writes the journal of a first life instead, with which another test goes on. By the words `write PATH COUNT` it
 //! appends records to the journal of this path, which other tests stop in the middle.
 #![tactic(auto)]

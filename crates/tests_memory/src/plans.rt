@@ -37,7 +37,7 @@ static SOURCES: [Source; 4] = [
         ],
         full: true,
     },
-    // No nodes: its digest stands in the page of the journal.
+    // No nodes: its digest is in the page of the journal.
     Source {
         files: &[("d.dag", "")],
         full: true,
@@ -67,7 +67,7 @@ fn plan_line(alloc: Global, plan: &Plan) -> Result<String, AllocError> {
     format!(in alloc; "build {nodes} nodes {digest}")
 }
 
-// Makes a plan, of the same graph once more where memory is wanting: the plan, if there is one.
+// Makes a plan, of the same graph once more where memory is out: the plan, if there is one.
 fn made(rt: HostRuntime, source: &Source) -> Result<Option<Plan>> {
     let alloc = rt.alloc();
     let files = files_of(alloc, source.files)?;

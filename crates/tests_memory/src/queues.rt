@@ -38,7 +38,7 @@ fn fill(rt: HostRuntime, queue: &mut ReadyQueue) -> Result<()>
     Ok(())
 }
 
-// Makes room for three members, once more where memory is wanting, and adds them.
+// Makes room for three members, once more where memory is out, and adds them.
 fn filled(rt: HostRuntime, queue: &mut ReadyQueue) -> Result<()> {
     for _ in 0..2 {
         match queue.reserve(3) {

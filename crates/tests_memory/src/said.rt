@@ -3,7 +3,7 @@
 use anyhow::Result;
 use std::alloc::{AllocError, Global};
 
-/// Whether a line says that memory is wanting: a call's fault, or that of a disk in memory, which says that it failed.
+/// Whether a line says that memory is out: a call's fault, or that of a disk in memory, which says that it failed.
 fn wants_memory(line: &str) -> bool {
     line.ends_with("Memory") || line.ends_with("Device")
 }
@@ -22,7 +22,7 @@ pub fn say(rt: HostRuntime, line: Result<String, AllocError>) -> Result<bool> {
     }
 }
 
-/// These words, a bar behind each.
+/// These words, a bar after each.
 pub fn barred<T: std::fmt::Display>(alloc: Global, words: &[T]) -> Result<String, AllocError> {
     let mut text = String::new(alloc);
     for word in words {

@@ -15,6 +15,9 @@ returns-in_err-answer-clause-held g c = λ honest unstreamed.
     refused-to (printed_run c.args.dag.now c.args.options.now run) c.in_err-answer.field-0.0 (run_refused _ (c.in_err-answer.ensures.held honest unstreamed)) c.from_residual.result
     c.from_residual.ensures.1
 
+pub returns-then-not-options-clause-some : goal.returns-then-not-options-clause-some
+returns-then-not-options-clause-some g c = λ unstreamed. as_text c.if-not-options.true (c.in_ok-answer.ensures.some unstreamed)
+
 pub returns-then-not-options-clause-held : goal.returns-then-not-options-clause-held
 returns-then-not-options-clause-held g c = λ honest unstreamed. as_text c.if-not-options.true (c.in_ok-answer.ensures.held honest unstreamed)
 

@@ -1,7 +1,7 @@
 use Rattle.std.proofs.Common.{◌≡◌, ◌∙◌, ◌++◌, ℕ, List, [], ap, append_assoc}
 use Rattle.round_inputs.proofs.begun.begun_text.Goals as goal
 
--- four texts, one behind the other
+-- four texts, one after the other
 joined : (none one two three four a b c d : List ℕ) → none ≡ [] → one ≡ none ++ a → two ≡ one ++ b → three ≡ two ++ c → four ≡ three ++ d
     → four ≡ a ++ (b ++ (c ++ d))
 joined none one two three four a b c d e0 e1 e2 e3 e4 =

@@ -17,7 +17,7 @@ use Rattle.sched_core.proofs.scheduler.Core.ends_fit.Goals as goal
 abbrev some : Key × Outcome
 some = (record { node = 0; attempt = 0; phase = Pre }, Exit 0)
 
--- the endings before a place, the one there, and those behind it
+-- the endings before a place, the one there, and those after it
 parted : (ends : List (Key × Outcome)) (place : ℕ) → place < length ends → ends ≡ take place ends ++ get_or ends place some ∷ drop (place + 1) ends
 parted ends place inside = sym (take-append-drop place ends) ∙ ap (λ (l : List (Key × Outcome)). take place ends ++ l) (drop_more ends place some inside)
 
