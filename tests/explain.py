@@ -48,7 +48,7 @@ def listed(program):
 
 def is_told(program, code):
     page = called(program, "explain", code)
-    return "no command tells it" not in page and "It is told as" not in page
+    return "no command tells it" not in page and "It is reported as" not in page
 
 
 def the_manual_has_them(program):

@@ -1311,7 +1311,11 @@ def a_copy_of_the_folder(place):
     place.wait_for("pid.A")
     first, path = int(place.read("pid.A")), place.path
     place.path = f"{place.folder}/copy"
-    shutil.copytree(path, place.path)
+    try:
+        shutil.copytree(path, place.path)
+    except shutil.Error as faults:
+        # A note of the launcher may be gone before it is copied. All else is copied then.
+        same([name for name, _, cause in faults.args[0] if "No such file" not in cause], [])
     os.remove(place.at("x.dag.journal"))
     manager = place.start()
     wait_until(lambda: place.read("ran.A") == "A\nA\n", "it is not started in the copy")

@@ -225,7 +225,7 @@ ROWS = [
         {"x.dag": TWO + "PARENT A B\n", "a.sub": GOOD},
         [
             ("dagrun run x.dag", 125, ["dagrun: L4 MissingWord x.dag:3:11 3 | PARENT A B ^", more("L4")]),
-            ("dagrun explain L4", 0, ["Add the word that is missing:", "behind PARENT names, CHILD and names."]),
+            ("dagrun explain L4", 0, ["Add the word that is missing:", "after PARENT names, CHILD and names."]),
         ],
         "sed -i 's/PARENT A B/PARENT A CHILD B/' x.dag",
     ),

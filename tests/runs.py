@@ -2574,7 +2574,7 @@ while grep -q '^ShdPnd:.*[4-7c-f].\\{4\\}$' /proc/$PPID/status; do sleep 0.01; d
     words = ["strace", "-qqq", "-y", "-o", "calls", "-e", "trace=pwrite64,fsync", "-e", "signal=none", folder.program, "run", "x.dag"]
     wanted = ["a.out", "a.err", "b.out", "b.err", "c.out", "folder", "three"]
     # The manager may be stopped within a look at its children, so that this look sees some of the endings, and the next one the others.
-    for _ in range(8):
+    for _ in range(30):
         for name in ("a.process", "b.process", "stopped"):
             with contextlib.suppress(FileNotFoundError):
                 os.remove(folder.at(name))
@@ -4677,6 +4677,29 @@ def the_round_before(folder):
         same((text, "cannot be used with" in faults, status), ("", True, 125))
 
 
+def what_more_slots_gain(folder):
+    """A summary says of each limit that was full how long the round would have taken without it, once the round has ended and unless it was aborted."""
+    folder.write("x.dag", "".join(f"JOB {name} s.sub\nCATEGORY {name} heavy\n" for name in "ABCD") + "JOB E s.sub\nMAXJOBS heavy 1\n")
+    folder.shell("s", "sleep 0.3\n")
+    same(folder.call("run", "--maxjobs", "3", "x.dag")[2], 0)
+    gains = lambda: [line for line in folder.call("times", "--summary", "x.dag")[0].splitlines() if line.startswith("with no limit on ")]
+    seconds = lambda line: [float(number) for number in re.findall(r"[0-9]+\.[0-9]{3}", line)]
+    # One of the category and E at once: the limit on jobs was not full.
+    (heavy,) = gains()
+    same(heavy.startswith("with no limit on jobs of heavy it would have taken "), True)
+    # Without it three jobs run at once, and then two; with it four, one after another.
+    without, under_all = seconds(heavy)
+    same((0.6 <= without < 1.2, 1.2 <= under_all), (True, True))
+    lines = folder.read("x.dag.log").splitlines(keepends=True)
+    folder.write("x.dag.log", b"".join(line for line in lines if b"\tfinish\t" not in line))
+    same(gains(), [])
+    # After an abort nothing is said: what was not run is not known.
+    folder.write("y.dag", "JOB A f.sub\nJOB B f.sub\nABORT-DAG-ON A 3\n")
+    folder.shell("f", "exit 3\n")
+    same(folder.call("run", "--maxjobs", "1", "y.dag")[2], 3)
+    same("with no limit" in folder.call("times", "--summary", "y.dag")[0], False)
+
+
 def times_of_changed_files(folder):
     """The critical path of a round is by the files with which it began, where others are there now and they are kept; and without that by those."""
     folder.write("x.dag", "JOB A a.sub\nJOB B b.sub\nJOB C b.sub\nPARENT A CHILD B\n")
@@ -4974,6 +4997,7 @@ ROWS = [
     an_output_in_place_of_a_status,
     json_is_the_text,
     the_round_before,
+    what_more_slots_gain,
     times_of_changed_files,
     times_without_a_log,
     a_picture_of_many_steps,

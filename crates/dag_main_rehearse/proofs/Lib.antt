@@ -4,3 +4,6 @@ pub mod OneReport
 pub mod RescueParts
 pub mod CalmReports
 pub mod TooLongRuns
+pub mod Replayed
+pub mod Entries
+pub mod Times

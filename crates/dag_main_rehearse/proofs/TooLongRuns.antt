@@ -23,11 +23,12 @@ use Rattle.job_starter_drive.specs.Causes.{AreRefused, IsDriveFault, no_memory_f
 use Rattle.job_starter_drive.specs.Drives.{At, at_rest, limits_of, no_step, IsStopped}
 use Rattle.job_starter_drive.specs.Scripts.{IsScripted}
 use Rattle.job_starter_drive.proofs.Walks.{goes-then}
+use Rattle.dag_main_rehearse.specs.Timed.{Timings, IsTimed}
 use Rattle.run_round.specs.RunToEnd.{IsAtEnd}
 use Rattle.run_round.specs.Causes.{IsSealFault, text_had_no_memory, rescue_failed, rescue_had_no_room, IsRunToEndFault, stopped, not_sealed, end_refused, no_memory_for_report}
 use Rattle.dag_main_check.specs.declared.fault.RunFault.{RunFault}
 use Rattle.dag_main_check.specs.declared.fault.RunFault.TheVariants.{InManager, Memory}
-use Rattle.dag_main_rehearse.specs.TooLong.{most_slots, no_slot, IsFullAt, full_on_the_way, full_at_the_end, HasNoSlotsFor, IsTooLong, IsTableRunFault, has_too_many_records, running_had_no_memory}
+use Rattle.dag_main_rehearse.specs.TooLong.{most_slots, no_slot, IsFullAt, full_on_the_way, full_at_the_end, HasNoSlotsFor, HasTooManyRecords, IsTooLong, IsTableRunFault, has_too_many_records, running_had_no_memory}
 use Rattle.dag_main_rehearse.proofs.Rehearsals.{same-script}
 
 -- a run from these records and calls on came to others, where it was stopped for want of slots, or to its end, with these records to follow
@@ -117,17 +118,17 @@ run_to_end-full disks rescues before now may old manager told heard disk left _ 
     }
 run_to_end-full disks rescues before now may old manager told heard disk left _ begun limit count same (no_memory_for_report ended rescued) is = absurd cc
 
--- by a script it is a rehearsal
-stop-full : (limits : Limits) (plan : Plan) (entries : List Entry) (past refused : List Record)
-    → Stop limits plan (IsScripted plan entries []) (Life ∷ []) [] past refused → IsFullAt limits plan entries past refused
-stop-full limits plan entries past refused (inl (calls, stopped_so)) = full_on_the_way calls stopped_so
-stop-full limits plan entries past refused (inr (calls, at, is)) = subst (IsFullAt limits plan entries past) (sym is) (full_at_the_end calls at)
+-- a run that began with Life alone
+stop-full : (limits : Limits) (plan : Plan) (may : Telling) (past refused : List Record)
+    → Stop limits plan may (Life ∷ []) [] past refused → IsFullAt limits plan may past refused
+stop-full limits plan may past refused (inl (calls, stopped_so)) = full_on_the_way calls stopped_so
+stop-full limits plan may past refused (inr (calls, at, is)) = subst (IsFullAt limits plan may past) (sym is) (full_at_the_end calls at)
 
-whole : (limits : Limits) (plan : Plan) (entries : List Entry) → Full limits plan (IsScripted plan entries []) (Life ∷ []) [] → IsTooLong limits plan entries
-whole limits plan entries f = record {
+whole : (limits : Limits) (plan : Plan) (may : Telling) → Full limits plan may (Life ∷ []) [] → HasTooManyRecords limits plan may
+whole limits plan may f = record {
   past = f.past;
   refused = f.refused;
-  full = stop-full limits plan entries f.past f.refused f.stop;
+  full = stop-full limits plan may f.past f.refused f.stop;
   follow = f.follow;
   slots = f.slots;
 }
@@ -138,7 +139,7 @@ pub too-long-by : (limits limits' : Limits) → limits' ≡ limits → (plan pla
     → (begun : List Record) → begun ≡ Life ∷ [] → (told : List Call) → told ≡ []
     → Full limits' plan' (IsScripted own entries' places) begun told → IsTooLong limits plan entries
 too-long-by limits limits' l plan plan' own p o entries entries' e places none begun b told t f =
-    whole limits plan entries
+    whole limits plan (IsScripted plan entries [])
     (subst (λ (x : Limits). Full x plan (IsScripted plan entries []) (Life ∷ []) []) l
     (subst (λ (x : Plan). Full limits' x (IsScripted plan entries []) (Life ∷ []) []) p
     (subst (λ (x : Plan). Full limits' plan' (IsScripted x entries []) (Life ∷ []) []) o
@@ -147,9 +148,21 @@ too-long-by limits limits' l plan plan' own p o entries entries' e places none b
     (subst (λ (x : List Record). Full limits' plan' (IsScripted own entries' places) x []) b
     (subst (λ (x : List Call). Full limits' plan' (IsScripted own entries' places) begun x) t f)))))))
 
+-- the same of children that take as long as is said
+pub timed-too-long-by : (limits limits' : Limits) → limits' ≡ limits → (plan plan' : Plan) → plan' ≡ plan → (timings timings' : Timings) → timings' ≡ timings
+    → (begun : List Record) → begun ≡ Life ∷ [] → (told : List Call) → told ≡ []
+    → Full limits' plan' (IsTimed timings') begun told → HasTooManyRecords limits plan (IsTimed timings)
+timed-too-long-by limits limits' l plan plan' p timings timings' s begun b told t f =
+    whole limits plan (IsTimed timings)
+    (subst (λ (x : Limits). Full x plan (IsTimed timings) (Life ∷ []) []) l
+    (subst (λ (x : Plan). Full limits' x (IsTimed timings) (Life ∷ []) []) p
+    (subst (λ (x : Timings). Full limits' plan' (IsTimed x) (Life ∷ []) []) s
+    (subst (λ (x : List Record). Full limits' plan' (IsTimed timings') x []) b
+    (subst (λ (x : List Call). Full limits' plan' (IsTimed timings') begun x) t f)))))
+
 -- Entries that say the same outcomes are one script.
 module _ (limits : Limits) (plan : Plan) (table entries : List Entry) (same : SameOutcomes table entries) where
-  same-full : (past refused : List Record) → IsFullAt limits plan table past refused → IsFullAt limits plan entries past refused
+  same-full : (past refused : List Record) → IsFullAt limits plan (IsScripted plan table []) past refused → IsFullAt limits plan (IsScripted plan entries []) past refused
   same-full past _ (full_on_the_way {refused = refused} calls s) =
       full_on_the_way calls (record {
         rest = s.rest;

@@ -3,3 +3,5 @@ pub mod Rehearsal
 pub mod Report
 pub mod Rehearsed
 pub mod Refusals
+pub mod Replay
+pub mod Timed

@@ -12,6 +12,7 @@ use Rattle.event_journal_log.specs.declared.fault.JournalFault.TheVariants.{Slot
 use Rattle.recovery_manager.specs.declared.fault.ManagerFault.{ManagerFault}
 use Rattle.recovery_manager.specs.declared.fault.ManagerFault.TheVariants.{Journal}
 use Rattle.job_starter_drive.specs.declared.Call.{Call}
+use Rattle.job_starter_drive.specs.Calls.{Telling}
 use Rattle.job_starter_drive.specs.declared.driving.DriveFault.TheVariants as drives
 use Rattle.job_starter_drive.specs.Drives.{IsStopped}
 use Rattle.job_starter_drive.specs.Scripts.{IsScripted}
@@ -26,15 +27,14 @@ most_slots = 16777216
 abbrev pub no_slot : ManagerFault
 no_slot = Journal SlotsFull
 
--- Where a rehearsal is stopped for want of slots, and the records that its manager refused there. The run of the plan under these limits began
--- with Life alone, and its children end as the table says. One step after another, it came to these records: on the way, where a round is to
+-- Where a run is stopped for want of slots, and the records that its manager refused there. The run of the plan under these limits began
+-- with Life alone, and its children end as is told. One step after another, it came to these records: on the way, where a round is to
 -- be launched or ends are owed; or where what is to be done next is to finish, by the record of its end alone.
-pub data IsFullAt (limits : Limits) (plan : Plan) (entries : List Entry) (past : List Record) : List Record → Type 0 where
+pub data IsFullAt (limits : Limits) (plan : Plan) (may : Telling) (past : List Record) : List Record → Type 0 where
   full_on_the_way : {refused : List Record} (calls : List Call) →
-      IsStopped limits plan (IsScripted plan entries []) (Life ∷ []) [] (drives.Manager no_slot) refused past calls →
-      IsFullAt limits plan entries past refused
-  full_at_the_end : (calls : List Call) → IsAtEnd limits plan (IsScripted plan entries []) (Life ∷ []) [] past calls →
-      IsFullAt limits plan entries past (Finish (exit_status plan past) ∷ [])
+      IsStopped limits plan may (Life ∷ []) [] (drives.Manager no_slot) refused past calls → IsFullAt limits plan may past refused
+  full_at_the_end : (calls : List Call) → IsAtEnd limits plan may (Life ∷ []) [] past calls →
+      IsFullAt limits plan may past (Finish (exit_status plan past) ∷ [])
 
 -- These records are Life and groups of others, each written after one gate, after which fewer slots are left than further ones need that are
 -- written together.
@@ -43,13 +43,17 @@ pub record HasNoSlotsFor (past refused : List Record) : Type 0 where
   pub are : past ≡ added (Life ∷ []) (records_in groups)
   pub many : most_slots < 1 + slots_in groups + slots_of refused
 
--- The run of a rehearsal has too many records: it came to records after which there are too few slots for those that were to follow.
-pub record IsTooLong (limits : Limits) (plan : Plan) (entries : List Entry) : Type 0 where
+-- A run has too many records: it came to records after which there are too few slots for those that were to follow.
+pub record HasTooManyRecords (limits : Limits) (plan : Plan) (may : Telling) : Type 0 where
   pub past : List Record
   pub refused : List Record
-  pub full : IsFullAt limits plan entries past refused
+  pub full : IsFullAt limits plan may past refused
   pub follow : IsTrue (may_follow_all plan past refused)
   pub slots : HasNoSlotsFor past refused
+
+-- so has the run of a rehearsal, whose children end as the table says
+abbrev pub IsTooLong : Limits → Plan → List Entry → Type 0
+IsTooLong limits plan entries = HasTooManyRecords limits plan (IsScripted plan entries [])
 
 -- why a run of a table under limits is stopped
 pub data IsTableRunFault (limits : Limits) (plan : Plan) (entries : List Entry) : RunFault → Type 0 where

@@ -25,7 +25,7 @@ use std::alloc::Global;
 use throttles::Limits;
 
 /// The bytes of a journal of as many slots, with its header and its last gate.
-const CAPACITY: usize = 65 + 32 * (MOST_RECORDS as usize);
+pub(crate) const CAPACITY: usize = 65 + 32 * (MOST_RECORDS as usize);
 
 /// A run that was led to its end: its manager, what it prints, and its exit status.
 pub struct Rehearsal<'a> {
@@ -55,7 +55,7 @@ impl<'a> Rehearsal<'a> {
 }
 
 /// A run that has begun, with its journal in memory.
-fn begin<'a>(
+pub(crate) fn begin<'a>(
     alloc: Global,
     plan: &'a Plan,
     limits: Limits,
@@ -75,8 +75,8 @@ fn begin<'a>(
 }
 
 /// What is returned for a run that was stopped: that it has more records than its journal has slots; else memory was refused, since a
-/// rehearsal wants nothing else.
-fn told(fault: DriveFault) -> RunFault
+/// rehearsal and a replay want nothing else.
+pub(crate) fn told(fault: DriveFault) -> RunFault
     ensures { (result ≡ Memory) ⊎ ((fault ≡ drives.Manager no_slot) × (result ≡ InManager no_slot)) }
 {
     match fault {

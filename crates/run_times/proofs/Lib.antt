@@ -10,3 +10,5 @@ mod RoundLines
 mod TimesPhases
 mod Waiting
 mod Whole
+mod Copies
+mod Gaining

@@ -18,3 +18,5 @@ pub mod Picture
 pub mod TimesData
 pub mod Rounds
 pub mod Answered
+pub mod Gains
+pub mod Unlimited

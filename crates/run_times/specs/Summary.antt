@@ -13,7 +13,9 @@ use Rattle.run_times.specs.Load.{most_running}
 use Rattle.run_times.specs.declared.limits.Counted.{Counted}
 use Rattle.run_times.specs.declared.limits.Counted.TheVariants.{Jobs, PreScripts, PostScripts, JobsOf, Children}
 use Rattle.run_times.specs.declared.limits.Limit.{Limit}
+use Rattle.run_times.specs.declared.gains.Gain.{Gain}
 use Rattle.run_times.specs.Limits.{holder_of, AreRoundLimits}
+use Rattle.run_times.specs.Gains.{AreGains}
 use Rattle.run_times.specs.Critical.{run_end_at}
 use Rattle.run_times.specs.Parts.{begun_at, end_of_rest, lasted_in, PartsAreWhole, waited_for_turn}
 use Rattle.run_times.specs.Kinds.{AreLongest}
@@ -35,14 +37,6 @@ busy_text took count most = codes "busy " ++ (seconds_text took ++ (codes " s in
 abbrev pub limits_text : ℕ → List ℕ
 limits_text soonest = codes "without limits it would have taken at least " ++ (seconds_text soonest ++ codes " s\n")
 
--- a number in a column: it ends where the column does
-abbrev pub column_text : List ℕ → List ℕ
-column_text number = replicate (WIDTH - length number) 32 ++ number
-
--- how long a phase waited that could begin at one moment and began at another; with a minus, if it began first
-abbrev pub wait_text : ℕ → ℕ → List ℕ
-wait_text from until = if nat_le from until then seconds_text (until - from) else codes "-" ++ seconds_text (from - until)
-
 -- what a limit counts
 abbrev pub counted_text : Counted → List ℕ
 counted_text Jobs = codes "jobs"
@@ -50,6 +44,22 @@ counted_text PreScripts = codes "PRE scripts"
 counted_text PostScripts = codes "POST scripts"
 counted_text (JobsOf category) = codes "jobs of " ++ category.now
 counted_text Children = codes "phases"
+
+-- how long it would have taken with no limit on something, and under all limits
+abbrev pub gain_text : Gain → List ℕ
+gain_text gain =
+    codes "with no limit on " ++ (counted_text gain.counted ++ (codes " it would have taken " ++ (seconds_text gain.without ++ (codes " s, " ++ (seconds_text gain.under_all ++ codes " s with all limits\n")))))
+
+abbrev pub gains_text : List Gain → List ℕ
+gains_text gains = flat_map gain_text gains
+
+-- a number in a column: it ends where the column does
+abbrev pub column_text : List ℕ → List ℕ
+column_text number = replicate (WIDTH - length number) 32 ++ number
+
+-- how long a phase waited that could begin at one moment and began at another; with a minus, if it began first
+abbrev pub wait_text : ℕ → ℕ → List ℕ
+wait_text from until = if nat_le from until then seconds_text (until - from) else codes "-" ++ seconds_text (from - until)
 
 -- for which limit a phase waited for its turn, if it did
 abbrev pub turn_text : Option Limit → List ℕ
@@ -107,17 +117,18 @@ figures_of runs path soonest = record {
 }
 
 -- the first lines
-abbrev pub summary_opening : Figures → List ℕ
-summary_opening figures = summary_took_text figures.took figures.lasted ++ (busy_text figures.busy figures.count figures.most ++ limits_text figures.soonest)
+abbrev pub summary_opening : Figures → List Gain → List ℕ
+summary_opening figures gains =
+    summary_took_text figures.took figures.lasted ++ (busy_text figures.busy figures.count figures.most ++ (limits_text figures.soonest ++ gains_text gains))
 
 -- the two lists
 abbrev pub lists_text : Network → List Limit → List PhaseRun → List ℕ → List Kind → List ℕ
 lists_text graph limits runs path kinds = path_head ++ (parts_text graph limits runs path ++ (kinds_head ++ kinds_text kinds))
 
--- the summary of phases with a critical path under some limits, the longest kinds, and how long it would have taken without limits
-abbrev pub summary_text_of : Network → List Limit → List PhaseRun → List ℕ → List Kind → ℕ → List ℕ
-summary_text_of graph limits runs path kinds soonest =
-    if length runs == 0 then codes "no phase was run\n" else summary_opening (figures_of runs path soonest) ++ lists_text graph limits runs path kinds
+-- the summary of phases with a critical path under some limits, the longest kinds, how long it would have taken without limits, and with no limit on something
+abbrev pub summary_text_of : Network → List Limit → List PhaseRun → List ℕ → List Kind → ℕ → List Gain → List ℕ
+summary_text_of graph limits runs path kinds soonest gains =
+    if length runs == 0 then codes "no phase was run\n" else summary_opening (figures_of runs path soonest) gains ++ lists_text graph limits runs path kinds
 
 -- A text is the summary of the phases of a graph with this critical path, whose parts sum to the time that the run took, under some limits: those on
 -- categories are those of the files.
@@ -129,4 +140,6 @@ pub record IsSummary (graph : Network) (runs : List PhaseRun) (path text : List 
   pub is_soonest : IsSoonest graph runs soonest
   pub limits : List Limit
   pub are_limits : AreRoundLimits graph limits
-  pub text_is : text ≡ summary_text_of graph limits runs path kinds soonest
+  pub gains : List Gain
+  pub gained : AreGains graph runs limits gains
+  pub text_is : text ≡ summary_text_of graph limits runs path kinds soonest gains

@@ -1,25 +1,24 @@
 //! What `times` answers.
 
-ghost use Rattle.std.specs.Prelude.{◌≡◌, ◌++◌, codes, Some, IfOk, IfErr, option_map, string_bytes};
+ghost use Rattle.std.specs.Prelude.{◌≡◌, ◌++◌, false, codes, Some, IfOk, IfErr, option_map, string_bytes};
 ghost use Rattle.dag_main_files.specs.Beside.{IsRefusalOf, IsRefusalHeld};
 ghost use Rattle.dag_main_files.specs.Opened.{changing, fixed, IsUnreadable};
 ghost use Rattle.run_times.specs.Critical.{IsCriticalPath};
 ghost use Rattle.run_times.specs.Limits.{AreRoundLimits};
+ghost use Rattle.run_plan.specs.Submitted.{bare_plan};
 ghost use Rattle.run_times.specs.Rounds.{two_logs};
 ghost use Rattle.run_times.specs.declared.form.Form.TheVariants.{Rounds};
 ghost use Rattle.run_times.specs.Answered.{log_name_of, old_log_name_of, IsLogBefore, IsShownWith, IsTimes, IsNoTimes};
 
 use crate::critical::{critical_path, marks_of};
 use crate::form::Form;
-use crate::limits::{Limit, limits_in};
+use crate::limits::{has_ended, limits_in};
 use crate::picture::picture_text;
 use crate::reader::runs_in;
 use crate::rounds::{Logs, rounds_text};
-use crate::runs::PhaseRun;
-use crate::summary::summary_text;
+use crate::summary::{Round, summary_text};
 use crate::table::table_text;
 use crate::times_data::times_json;
-use dag_graph::Graph;
 use dag_main_check::{Answer, RunFault, warning_text};
 use dag_main_files::{Folder, bare_plan_here};
 use dag_reader::Text;
@@ -59,34 +58,39 @@ pub fn times_here<F: Folder>(
     let runs = runs_in(alloc, logs.last)?;
     let path = critical_path(alloc, graph, &runs)?;
     let limits = limits_in(alloc, graph, logs.last)?;
+    let round = Round {
+        plan: &plan,
+        limits: &limits,
+        runs: &runs,
+        ended: has_ended(logs.last),
+    };
     Ok(Answer {
-        text: text_of(alloc, &logs, graph, &limits, &runs, &path, form)?,
+        text: text_of(alloc, &logs, &round, &path, form)?,
         warnings: warning_text(alloc, graph.flat().warnings())?,
         status: 0,
     })
 }
 
-/// What is printed of these phases of a graph, with their critical path and the limits under which they ran, or of these logs, in this form.
+/// What is printed of a round, with its critical path, or of these logs, in this form.
 fn text_of(
     alloc: Global,
     logs: &Logs<'_>,
-    graph: &Graph,
-    limits: &[Limit<'_>],
-    runs: &[PhaseRun<'_>],
+    round: &Round<'_>,
     path: &[usize],
     form: Form,
 ) -> Result<String, AllocError>
-    requires path { IsCriticalPath graph.now runs.now path.now }
-    requires limits { AreRoundLimits graph.now limits.now }
-    ensures { IfOk result (λ text. IsShownWith (two_logs logs.now) graph.now runs.now path.now form (string_bytes text)) }
+    requires plan { round.now.plan.now ≡ bare_plan false round.now.plan.now.graph }
+    requires path { IsCriticalPath round.now.plan.now.graph round.now.runs.now path.now }
+    requires limits { AreRoundLimits round.now.plan.now.graph round.now.limits.now }
+    ensures { IfOk result (λ text. IsShownWith (two_logs logs.now) round.now.plan.now.graph round.now.runs.now path.now form (string_bytes text)) }
 {
-    let each = marks_of(alloc, path, runs.len())?;
-    let marks = each.as_slice();
+    let each = marks_of(alloc, path, round.runs.len())?;
+    let (runs, marks) = (round.runs, each.as_slice());
     match form {
         Form::Table => table_text(alloc, runs, marks),
         Form::Picture => picture_text(alloc, runs, marks),
         Form::Json => times_json(alloc, runs, marks),
-        Form::Summary => summary_text(alloc, graph, limits, runs, path),
+        Form::Summary => summary_text(alloc, round, path),
         Form::Rounds => rounds_text(alloc, logs),
     }
 }

@@ -9,6 +9,7 @@ mod checks;
 mod classes;
 mod critical;
 mod form;
+mod gains;
 mod here;
 mod kinds;
 pub mod laws;
@@ -27,6 +28,7 @@ mod summary;
 mod table;
 mod ticks;
 mod times_data;
+mod unlimited;
 
 pub use form::Form;
 pub use here::times_here;

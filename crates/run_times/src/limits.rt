@@ -142,6 +142,19 @@ fn manager_limits(log: &[u8]) -> ManagerLimits {
     limits
 }
 
+/// Whether a round has ended, by the last manager that its log tells of.
+pub(crate) fn has_ended(log: &[u8]) -> bool {
+    let mut ended = false;
+    for line in whole_lines(log).split(|byte| *byte == b'\n') {
+        match read_line(line) {
+            Some(line) if line.event == "life" => ended = false,
+            Some(line) if line.event == "finish" => ended = true,
+            _ => {}
+        }
+    }
+    ended
+}
+
 /// Adds a limit, where there is one.
 fn push_limit<'a>(
     limits: &mut Vec<Limit<'a>>,

@@ -1,13 +1,16 @@
 //! A summary for a person: where the time went, and what would make it shorter.
 
-ghost use Rattle.std.specs.Prelude.{◌≡◌, ◌++◌, replicate, slice_get, OnOk, IfOk, string_bytes};
+ghost use Rattle.std.specs.Prelude.{◌≡◌, ◌++◌, false, replicate, slice_get, OnOk, IfOk, string_bytes};
 ghost use Rattle.run_times.specs.Table.{seconds_text};
 ghost use Rattle.run_times.specs.Critical.{IsCriticalPath};
 ghost use Rattle.run_times.specs.Limits.{AreRoundLimits};
-ghost use Rattle.run_times.specs.Summary.{phases_text, summary_took_text, busy_text, limits_text, column_text, wait_text, counted_text, turn_text, waited_for, path_phase_text, path_row_text, parts_text, kind_text, kinds_text, busy_in, summary_opening, lists_text, summary_text_of, IsSummary};
+ghost use Rattle.run_plan.specs.Submitted.{bare_plan};
+ghost use Rattle.run_times.specs.Gains.{AreGains};
+ghost use Rattle.run_times.specs.Summary.{phases_text, summary_took_text, busy_text, limits_text, gain_text, gains_text, column_text, wait_text, counted_text, turn_text, waited_for, path_phase_text, path_row_text, parts_text, kind_text, kinds_text, busy_in, summary_opening, lists_text, summary_text_of, IsSummary};
 
 use crate::canvas::latest_end;
 use crate::critical::run_end_at;
+use crate::gains::{Gain, gains_of};
 use crate::kinds::{Kind, longest_kinds};
 use crate::limits::{Counted, Limit, holder_of};
 use crate::load::most_running;
@@ -17,6 +20,7 @@ use crate::soonest::time_without_limits;
 use crate::table::push_seconds;
 use dag_graph::Graph;
 use log_lines::phase_word;
+use run_plan::Plan;
 use std::alloc::{AllocError, Global};
 
 /// How many letters a column of numbers has.
@@ -91,6 +95,30 @@ fn push_limits(text: &mut String, soonest: u64) -> Result<(), AllocError>
     text.push_str("without limits it would have taken at least ")?;
     push_seconds(text, soonest)?;
     text.push_str(" s\n")?;
+    Ok(())
+}
+
+/// Adds how long it would have taken with no limit on something, and under all limits.
+fn push_gain(text: &mut String, gain: &Gain<'_>) -> Result<(), AllocError>
+    ensures { OnOk result (string_bytes text.new ≡ string_bytes text.old ++ gain_text gain.now) }
+{
+    text.push_str("with no limit on ")?;
+    push_counted(text, gain.counted)?;
+    text.push_str(" it would have taken ")?;
+    push_seconds(text, gain.without)?;
+    text.push_str(" s, ")?;
+    push_seconds(text, gain.under_all)?;
+    text.push_str(" s with all limits\n")?;
+    Ok(())
+}
+
+/// Adds what more slots could gain.
+fn push_gains(text: &mut String, gains: &[Gain<'_>]) -> Result<(), AllocError>
+    ensures { OnOk result (string_bytes text.new ≡ string_bytes text.old ++ gains_text gains.now) }
+{
+    for gain in gains {
+        push_gain(text, gain)?;
+    }
     Ok(())
 }
 
@@ -264,12 +292,13 @@ fn push_kinds(alloc: Global, text: &mut String, kinds: &[Kind<'_>]) -> Result<()
 }
 
 /// Adds the first lines.
-fn push_opening(text: &mut String, figures: &Figures) -> Result<(), AllocError>
-    ensures { OnOk result (string_bytes text.new ≡ string_bytes text.old ++ summary_opening figures.now) }
+fn push_opening(text: &mut String, figures: &Figures, gains: &[Gain<'_>]) -> Result<(), AllocError>
+    ensures { OnOk result (string_bytes text.new ≡ string_bytes text.old ++ summary_opening figures.now gains.now) }
 {
     push_took(text, figures.took, figures.lasted)?;
     push_busy(text, figures.busy, figures.count, figures.most)?;
     push_limits(text, figures.soonest)?;
+    push_gains(text, gains)?;
     Ok(())
 }
 
@@ -291,23 +320,45 @@ fn push_lists(
     Ok(())
 }
 
-/// A summary of these phases of a graph, with their critical path and the limits under which they ran: how long the run took, how
-/// much of that the phases of the path; how long all phases took; how long it would have taken without limits; how long each phase of
+/// What a summary is of: a round, by its plan, its phases and the limits under which these ran, and whether it has ended.
+#[derive(Clone, Copy)]
+pub(crate) struct Round<'a> {
+    pub(crate) plan: &'a Plan,
+    pub(crate) limits: &'a [Limit<'a>],
+    pub(crate) runs: &'a [PhaseRun<'a>],
+    pub(crate) ended: bool,
+}
+
+/// What more slots could gain, where the round has ended.
+fn gains_in<'a>(alloc: Global, round: &Round<'a>) -> Result<Vec<Gain<'a>>, AllocError>
+    requires plan { round.now.plan.now ≡ bare_plan false round.now.plan.now.graph }
+    ensures { IfOk result (λ gains. AreGains round.now.plan.now.graph round.now.runs.now round.now.limits.now gains.items) }
+{
+    if round.ended {
+        gains_of(alloc, round.plan, round.limits, round.runs)
+    } else {
+        Ok(Vec::new(alloc))
+    }
+}
+
+/// A summary of a round, with its critical path: how long the run took, how much of that the phases of the path; how long all phases took;
+/// how long it would have taken without limits, and with no limit on each thing of which one was full; how long each phase of
 /// the path waited and took, and for which limit; and the kinds of phases that took longest. Times are in seconds.
 ///
 /// # Errors
 /// Lack of memory.
 pub(crate) fn summary_text(
     alloc: Global,
-    graph: &Graph,
-    limits: &[Limit<'_>],
-    runs: &[PhaseRun<'_>],
+    round: &Round<'_>,
     path: &[usize],
 ) -> Result<String, AllocError>
-    requires path { IsCriticalPath graph.now runs.now path.now }
-    requires limits { AreRoundLimits graph.now limits.now }
-    ensures { IfOk result (λ text. IsSummary graph.now runs.now path.now (string_bytes text)) }
+    requires plan { round.now.plan.now ≡ bare_plan false round.now.plan.now.graph }
+    requires path { IsCriticalPath round.now.plan.now.graph round.now.runs.now path.now }
+    requires limits { AreRoundLimits round.now.plan.now.graph round.now.limits.now }
+    ensures { IfOk result (λ text. IsSummary round.now.plan.now.graph round.now.runs.now path.now (string_bytes text)) }
 {
+    let (limits, runs) = (round.limits, round.runs);
+    let graph = round.plan.graph();
     let kinds = longest_kinds(alloc, graph, runs)?;
     let figures = Figures {
         took: latest_end(runs),
@@ -317,6 +368,7 @@ pub(crate) fn summary_text(
         most: most_running(alloc, runs)?.max(1),
         soonest: time_without_limits(alloc, graph, runs)?,
     };
+    let gains = gains_in(alloc, round)?;
     let mut text = String::new(alloc);
     if runs.is_empty() {
         text.push_str("no phase was run\n")?;
@@ -327,7 +379,7 @@ pub(crate) fn summary_text(
         limits,
         runs,
     };
-    push_opening(&mut text, &figures)?;
+    push_opening(&mut text, &figures, &gains)?;
     push_lists(alloc, &mut text, &shown, path, &kinds)?;
     Ok(text)
 }

@@ -34,11 +34,13 @@ static LOG: &str =
 2026-11-25T23:40:08.610Z\tend\tSum\tJOB\t0\t14\texit=0\tseconds=1.000
 2026-11-25T23:40:08.612Z\tstart\tLast\tJOB\t0\t15\tcommand=/bin/true
 2026-11-25T23:40:08.712Z\tend\tLast\tJOB\t0\t15\texit=0\tseconds=0.100
+2026-11-25T23:40:08.714Z\tfinish\t-\t-\t-\t9\tstatus=0
 ";
 
 static SUMMARY: &str = "took 8.712 s, 4.600 s of it in the phases of the critical path
 busy 8.700 s in 6 phases, at most 1 at once
 without limits it would have taken at least 6.200 s
+with no limit on jobs it would have taken 6.200 s, 8.700 s with all limits
 
 critical path
     waited   seconds
@@ -225,6 +227,156 @@ fn summary_under_the_limit_of_a_category(rt: HostRuntime) -> Result<(), Fail> {
     let wide = "JOB A a.sub\nJOB B a.sub\nCATEGORY A heavy\nCATEGORY B heavy\nMAXJOBS heavy 2\n";
     shows_two(&rt, alloc, wide, "B JOB 0")?;
     shows_two(&rt, alloc, "JOB A a.sub\nJOB B a.sub\n", "B JOB 0")
+}
+
+/// Four jobs of a category that has a limit of 1: one after another they take 10 s, at once as long as the longest. While the round has no end,
+/// nothing is said of that.
+#[test]
+fn gain_of_a_category(rt: HostRuntime) -> Result<(), Fail> {
+    let alloc = rt.alloc();
+    let dag =
+        "JOB A a.sub\nJOB B a.sub\nJOB C a.sub\nJOB D a.sub\nCATEGORY ALL_NODES heavy\nMAXJOBS heavy 1\n";
+    let log =
+        "2026-11-25T23:40:00.000Z\tlife\t-\t-\t-\t9\tstart=begin\tjobs=0\tpre=0\tpost=0\tchildren=1024
+2026-11-25T23:40:00.000Z\tstart\tA\tJOB\t0\t10\tcommand=/bin/true
+2026-11-25T23:40:01.000Z\tend\tA\tJOB\t0\t10\texit=0\tseconds=1.000
+2026-11-25T23:40:01.001Z\tstart\tB\tJOB\t0\t11\tcommand=/bin/true
+2026-11-25T23:40:03.001Z\tend\tB\tJOB\t0\t11\texit=0\tseconds=2.000
+2026-11-25T23:40:03.002Z\tstart\tC\tJOB\t0\t12\tcommand=/bin/true
+2026-11-25T23:40:06.002Z\tend\tC\tJOB\t0\t12\texit=0\tseconds=3.000
+2026-11-25T23:40:06.003Z\tstart\tD\tJOB\t0\t13\tcommand=/bin/true
+2026-11-25T23:40:10.003Z\tend\tD\tJOB\t0\t13\texit=0\tseconds=4.000
+";
+    let opening = "took 10.003 s, 4.000 s of it in the phases of the critical path
+busy 10.000 s in 4 phases, at most 1 at once
+without limits it would have taken at least 4.000 s
+";
+    let lists = "
+critical path
+    waited   seconds
+     6.003     4.000  D JOB 0  for its turn: limit 1 on jobs of heavy
+
+longest kinds
+    10.000 s  4 of a.sub
+";
+    let unended = format!(in alloc; "{opening}{lists}")?;
+    shows(&rt, alloc, dag, log, Form::Summary, unended.as_str())?;
+    let finished = format!(in alloc;
+        "{log}2026-11-25T23:40:10.004Z\tfinish\t-\t-\t-\t9\tstatus=0\n"
+    )?;
+    let gain =
+        "with no limit on jobs of heavy it would have taken 4.000 s, 10.000 s with all limits\n";
+    let ended = format!(in alloc; "{opening}{gain}{lists}")?;
+    shows(
+        &rt,
+        alloc,
+        dag,
+        finished.as_str(),
+        Form::Summary,
+        ended.as_str(),
+    )
+}
+
+/// Two limits. With both, B begins at 2 s and D at 4 s, and both end at 5 s. With no limit on the category A and B begin, C at 2 s, and it ends at 6 s.
+/// With no limit on jobs A, C and D begin, B at 2 s, and it ends at 5 s.
+#[test]
+fn gain_of_two_limits(rt: HostRuntime) -> Result<(), Fail> {
+    let dag =
+        "JOB A a.sub\nJOB B a.sub\nJOB C a.sub\nJOB D a.sub\nCATEGORY A heavy\nCATEGORY B heavy\nMAXJOBS heavy 1\n";
+    let log =
+        "2026-11-25T23:40:00.000Z\tlife\t-\t-\t-\t9\tstart=begin\tjobs=2\tpre=0\tpost=0\tchildren=1024
+2026-11-25T23:40:00.000Z\tstart\tA\tJOB\t0\t10\tcommand=/bin/true
+2026-11-25T23:40:00.000Z\tstart\tC\tJOB\t0\t11\tcommand=/bin/true
+2026-11-25T23:40:02.000Z\tend\tA\tJOB\t0\t10\texit=0\tseconds=2.000
+2026-11-25T23:40:02.001Z\tstart\tB\tJOB\t0\t12\tcommand=/bin/true
+2026-11-25T23:40:04.000Z\tend\tC\tJOB\t0\t11\texit=0\tseconds=4.000
+2026-11-25T23:40:04.001Z\tstart\tD\tJOB\t0\t13\tcommand=/bin/true
+2026-11-25T23:40:05.001Z\tend\tB\tJOB\t0\t12\texit=0\tseconds=3.000
+2026-11-25T23:40:05.001Z\tend\tD\tJOB\t0\t13\texit=0\tseconds=1.000
+2026-11-25T23:40:05.002Z\tfinish\t-\t-\t-\t9\tstatus=0
+";
+    let wanted = "took 5.001 s, 1.000 s of it in the phases of the critical path
+busy 10.000 s in 4 phases, at most 2 at once
+without limits it would have taken at least 4.000 s
+with no limit on jobs of heavy it would have taken 6.000 s, 5.000 s with all limits
+with no limit on jobs it would have taken 5.000 s, 5.000 s with all limits
+
+critical path
+    waited   seconds
+     4.001     1.000  D JOB 0  for its turn: limit 2 on jobs
+
+longest kinds
+    10.000 s  4 of a.sub
+";
+    shows(&rt, rt.alloc(), dag, log, Form::Summary, wanted)
+}
+
+/// Each node of a chain waits for the one before it, so a limit costs nothing; an attempt that failed, a POST script, and what a manager that was
+/// killed had lost: of that phase the last run counts.
+#[test]
+fn gain_of_a_chain(rt: HostRuntime) -> Result<(), Fail> {
+    let dag = "JOB A a.sub\nJOB B b.sub\nRETRY B 1\nSCRIPT POST B check\nPARENT A CHILD B\n";
+    let log =
+        "2026-11-25T23:40:00.000Z\tlife\t-\t-\t-\t9\tstart=begin\tjobs=1\tpre=0\tpost=0\tchildren=1024
+2026-11-25T23:40:00.000Z\tstart\tA\tJOB\t0\t10\tcommand=/bin/true
+2026-11-25T23:40:00.500Z\thold\t-\t-\t-\t-\treason=process
+2026-11-25T23:40:01.000Z\tlife\t-\t-\t-\t19\tstart=go_on\tjobs=1\tpre=0\tpost=0\tchildren=1024
+2026-11-25T23:40:01.000Z\tstart\tA\tJOB\t0\t20\tcommand=/bin/true
+2026-11-25T23:40:02.000Z\tend\tA\tJOB\t0\t20\texit=0\tseconds=1.000
+2026-11-25T23:40:02.002Z\tstart\tB\tJOB\t0\t21\tcommand=/bin/true
+2026-11-25T23:40:03.002Z\tend\tB\tJOB\t0\t21\tsignal=9\tname=SIGKILL\tseconds=1.000
+2026-11-25T23:40:03.004Z\tstart\tB\tPOST\t0\t22\tcommand=check
+2026-11-25T23:40:03.254Z\tend\tB\tPOST\t0\t22\texit=1\tseconds=0.250
+2026-11-25T23:40:03.256Z\tstart\tB\tJOB\t1\t23\tcommand=/bin/true
+2026-11-25T23:40:05.256Z\tend\tB\tJOB\t1\t23\texit=0\tseconds=2.000
+2026-11-25T23:40:05.258Z\tstart\tB\tPOST\t1\t24\tcommand=check
+2026-11-25T23:40:05.508Z\tend\tB\tPOST\t1\t24\texit=0\tseconds=0.250
+2026-11-25T23:40:05.510Z\tfinish\t-\t-\t-\t19\tstatus=0
+";
+    let wanted = "took 5.508 s, 5.000 s of it in the phases of the critical path
+busy 5.000 s in 6 phases, at most 1 at once
+without limits it would have taken at least 5.000 s
+with no limit on jobs it would have taken 4.500 s, 4.500 s with all limits
+
+critical path
+    waited   seconds
+     0.000     0.500  A JOB 0
+     0.500     1.000  A JOB 0
+     0.002     1.000  B JOB 0
+     0.002     0.250  B POST 0
+     0.002     2.000  B JOB 1
+     0.002     0.250  B POST 1
+
+longest kinds
+     3.000 s  2 of b.sub
+     1.500 s  2 of a.sub
+     0.500 s  2 of POST scripts
+";
+    shows(&rt, rt.alloc(), dag, log, Form::Summary, wanted)
+}
+
+/// A value of ABORT-DAG-ON ended the round: what is left of it was not run, so nothing is said of a limit.
+#[test]
+fn no_gain_behind_an_abort(rt: HostRuntime) -> Result<(), Fail> {
+    let dag = "JOB A a.sub\nJOB B a.sub\nABORT-DAG-ON A 3\n";
+    let log =
+        "2026-11-25T23:40:00.000Z\tlife\t-\t-\t-\t9\tstart=begin\tjobs=1\tpre=0\tpost=0\tchildren=1024
+2026-11-25T23:40:00.000Z\tstart\tA\tJOB\t0\t10\tcommand=/bin/true
+2026-11-25T23:40:01.000Z\tend\tA\tJOB\t0\t10\texit=3\tseconds=1.000
+2026-11-25T23:40:01.001Z\tfinish\t-\t-\t-\t9\tstatus=3
+";
+    let wanted = "took 1.000 s, 1.000 s of it in the phases of the critical path
+busy 1.000 s in 1 phase, at most 1 at once
+without limits it would have taken at least 1.000 s
+
+critical path
+    waited   seconds
+     0.000     1.000  A JOB 0
+
+longest kinds
+     1.000 s  1 of a.sub
+";
+    shows(&rt, rt.alloc(), dag, log, Form::Summary, wanted)
 }
 
 /// One phase that took no time, and none.

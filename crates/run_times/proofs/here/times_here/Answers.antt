@@ -20,7 +20,7 @@ use Rattle.run_times.proofs.here.times_here.Goals as goal
 
 -- what is shown of logs, by what was read and handed on
 shown-of : (logs read : TwoLogs) (graph seen : Network) (form : Form) (text : List ℕ) (runs timed drawn : List PhaseRun) (path given : List ℕ) → read ≡ logs → IsRunsOf read.last runs → seen ≡ graph
-    → timed ≡ runs → drawn ≡ runs → given ≡ path → IsCriticalPath seen timed path → IsShownWith read seen drawn given form text → IsShownOf logs graph form text
+    → timed ≡ runs → drawn ≡ runs → given ≡ path → IsCriticalPath seen timed path → IsShownWith read graph drawn given form text → IsShownOf logs graph form text
 shown-of logs read graph seen form text runs timed drawn path given logs_are runs_are graph_is timed_is drawn_is given_is is_path shown = record {
   runs = runs;
   runs_are = subst (λ (l : TwoLogs). IsRunsOf l.last runs) logs_are runs_are;
@@ -28,7 +28,7 @@ shown-of logs read graph seen form text runs timed drawn path given logs_are run
   is_path = subst (λ (r : List PhaseRun). IsCriticalPath graph r path) timed_is (subst (λ (n : Network). IsCriticalPath n timed path) graph_is is_path);
   shown = subst (λ (l : TwoLogs). IsShownWith l graph runs path form text) logs_are
       (subst (λ (r : List PhaseRun). IsShownWith read graph r path form text) drawn_is
-      (subst (λ (p : List ℕ). IsShownWith read graph drawn p form text) given_is (subst (λ (n : Network). IsShownWith read n drawn given form text) graph_is shown)));
+      (subst (λ (p : List ℕ). IsShownWith read graph drawn p form text) given_is shown));
 }
 
 -- the logs that were read are those that are handed on
