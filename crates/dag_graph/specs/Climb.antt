@@ -38,7 +38,7 @@ with_order_place c v = record c { placed = slice_set c.placed v true; order = c.
 abbrev pub work_left : List (List ℕ) → Climbing → ℕ
 work_left parents c = sum_by (λ n. sum_by length parents - n) c.next + count_by (λ b. not b) c.entered + count_by (λ b. not b) c.placed
 
--- each node of the path is followed by one of its parents; nodes that were met stand in the path or in the order;
+-- each node of the path is followed by one of its parents; nodes that were met are in the path or in the order;
 -- parents of what is placed are placed, at lower ranks
 pub record IsClimb (parents : List (List ℕ)) (c : Climbing) : Type 0 where
   pub entered_len : length c.entered ≡ length parents
@@ -58,8 +58,8 @@ pub record IsClimb (parents : List (List ℕ)) (c : Climbing) : Type 0 where
   pub absent : (v : ℕ) → v < length parents → is_placed c v ≡ false → rank_in c.order v ≡ length c.order
   pub count : length c.order + count_by (λ b. not b) c.placed ≡ length parents
 
--- a path on which each node is followed by one of its parents, and none comes twice, comes back: one of the parents of the
--- last stands on it
+-- a path on which each node is followed by one of its parents, and none comes twice, comes back: one of the parents of
+-- the last is on it
 pub record IsClosed (parents : List (List ℕ)) (path : List ℕ) (parent : ℕ) : Type 0 where
   pub some : 0 < length path
   pub chain : (i : ℕ) → i + 1 < length path → Contains (up parents (slice_index path i)) (slice_index path (i + 1))

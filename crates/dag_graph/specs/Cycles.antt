@@ -6,7 +6,7 @@ use Rattle.dag_graph.specs.declared.fault.GraphFault.{GraphFault}
 use Rattle.dag_graph.specs.declared.fault.GraphFault.TheVariants.{Cycle, Memory}
 use Rattle.dag_graph.specs.Graph.{IsParent, Leads, IsCycle, AreDistinct, rank_in, name_of}
 
--- each node of a path is followed by one of its parents, one of the parents of the last stands on it, and none comes twice
+-- each node of a path is followed by one of its parents, one of the parents of the last is on it, and none comes twice
 pub record IsClosedBy (edges : List Edge) (path : List ℕ) (parent : ℕ) : Type 0 where
   pub chain : (i : ℕ) → i + 1 < length path → IsParent edges (slice_index path (i + 1)) (slice_index path i)
   pub last : IsParent edges parent (slice_index path (length path - 1))

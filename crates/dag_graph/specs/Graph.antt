@@ -5,7 +5,7 @@ use Rattle.splices_flat.specs.declared.flat.Edge.{Edge}
 use Rattle.splices_flat.specs.declared.flat.FlatNode.{FlatNode}
 use Rattle.splices_flat.specs.Dag.{Dag}
 
--- an edge from the parent to the child stands among these
+-- an edge from the parent to the child is among these
 abbrev pub IsParent : List Edge → ℕ → ℕ → Type 0
 IsParent edges parent child = Contains edges (record { parent = parent; child = child })
 
@@ -64,7 +64,7 @@ all_children_of dag = map (children_of dag) (range_with_len 0 (length dag.nodes)
 abbrev pub rank_in : List ℕ → ℕ → ℕ
 rank_in order node = position_or_len (λ n. n == node) order
 
--- each of the ordinary nodes stands in the order once, and nothing else does; parents stand before their children
+-- each of the ordinary nodes is in the order once, and nothing else is; parents come before their children
 pub record IsOrderOf (dag : Dag) (order : List ℕ) : Type 0 where
   pub all : length order ≡ length dag.nodes
   pub places : (node : ℕ) → node < length dag.nodes → slice_index order (rank_in order node) ≡ node

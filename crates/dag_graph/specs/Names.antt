@@ -3,7 +3,7 @@ use Rattle.std.specs.Prelude.{◌≡◌, ℕ, List, Option, Some, None, position
 use Rattle.std.specs.Option.{option_or}
 use Rattle.std.specs.Str.{bytes_eq}
 
--- a table of names gives the place of each among these names, the first one where it stands there more than once
+-- a table of names gives the place of each among these names, the first one where it is there more than once
 abbrev pub GivesPlaces : (List ℕ → Option ℕ) → List (List ℕ) → Type 0
 GivesPlaces get names = (name : List ℕ) → get name ≡ position (bytes_eq name) names
 

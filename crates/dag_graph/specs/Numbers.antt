@@ -2,7 +2,7 @@
 use Rattle.std.specs.Prelude.{◌≡◌, ℕ, ◌-◌, ◌<◌, Bool, ◌==◌, List, [], length, map, slice_get, slice_index_or, filter, Some}
 use Rattle.std.specs.List.{list_any, flat_map, range_with_len}
 
--- whether a number stands in a list
+-- whether a number is in a list
 abbrev pub has : List ℕ → ℕ → Bool
 has numbers number = list_any (λ m. m == number) numbers
 
@@ -14,11 +14,11 @@ IsLast numbers number = slice_get numbers (length numbers - 1) ≡ Some number
 abbrev pub AreBelow : ℕ → List (List ℕ) → Type 0
 AreBelow count lists = (v k : ℕ) → v < length lists → k < length (slice_index_or lists v []) → slice_index_or (slice_index_or lists v []) k 0 < count
 
--- the numbers below a bound of the lists in which a number stands
+-- the numbers below a bound of the lists that hold a number
 abbrev pub holders_below : ℕ → List (List ℕ) → ℕ → List ℕ
 holders_below bound lists number = filter (λ v. has (slice_index_or lists v []) number) (range_with_len 0 bound)
 
--- the numbers of the lists in which a number stands
+-- the numbers of the lists that hold a number
 abbrev pub holders_of : List (List ℕ) → ℕ → List ℕ
 holders_of lists number = holders_below (length lists) lists number
 

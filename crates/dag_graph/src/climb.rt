@@ -2,7 +2,7 @@
 //!
 //! From each node in turn the climb goes up to a parent that has no place in the order yet, and on
 //! from there. A node all of whose parents have a place gets the next one. A parent without a place
-//! that was met before stands on the path, so the path from it on is a cycle. Each node is met once,
+//! that was met before is on the path, so the path from it on is a cycle. Each node is met once,
 //! and each parent of a node looked at once or twice.
 
 ghost use Rattle.std.specs.Prelude.{◌≡◌, ◌<◌, ◌≤◌, ◌+◌, ◌-◌, ◌^◌, [], true, false, None, Some, IfOk, OnOk, IfNone, length, replicate, slice_get, slice_index};

@@ -29,7 +29,7 @@ pub struct Graph {
     numbers: IndexMap<String, u32>,
 }
 
-// Each function that lets a value go calls this; a derived drop stands in each, part by part.
+// Each function that drops a value calls this; a derived drop would be in each, part by part.
 impl Drop for Graph {
     fn drop(self) {
         let Graph {
@@ -72,7 +72,7 @@ impl Graph {
         })
     }
 
-    /// The ordinary nodes, each once and behind its parents.
+    /// The ordinary nodes, each once and after its parents.
     pub fn order(&self) -> &[u32]
         ensures is { result.now ≡ self.now.order }
         ensures parents_first { IsOrderOf self.now.dag self.now.order }

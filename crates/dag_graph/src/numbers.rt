@@ -39,7 +39,7 @@ impl Numbers {
         self.numbers.as_slice()
     }
 
-    /// Adds a number behind the others.
+    /// Adds a number after the others.
     pub(crate) fn push(&mut self, number: u32) -> Result<(), AllocError>
         ensures { OnOk result (self.new ≡ self.old ++ number ∷ []) }
     {
@@ -47,14 +47,14 @@ impl Numbers {
         Ok(())
     }
 
-    /// Adds numbers behind the others.
+    /// Adds numbers after the others.
     pub(crate) fn extend(&mut self, numbers: &[u32]) -> Result<(), AllocError>
         ensures { OnOk result (self.new ≡ self.old ++ numbers.now) }
     {
         self.numbers.extend_from_slice(numbers)
     }
 
-    /// Adds a number behind the others, unless it is the last of them.
+    /// Adds a number after the others, unless it is the last of them.
     pub(crate) fn add(&mut self, number: u32) -> Result<(), AllocError>
         ensures kept { IsLast self.old number → OnOk result (self.new ≡ self.old) }
         ensures added { ¬ (IsLast self.old number) → OnOk result (self.new ≡ self.old ++ number ∷ []) }
@@ -81,7 +81,7 @@ pub(crate) fn empty_lists(alloc: Global, count: usize) -> Result<Vec<Numbers>, A
     Ok(lists)
 }
 
-/// Adds a number to the list at each of these places; a place may stand there more than once.
+/// Adds a number to the list at each of these places; a place may be there more than once.
 pub(crate) fn add_at(
     lists: &mut Vec<Numbers>,
     places: &[u32],
@@ -98,7 +98,7 @@ pub(crate) fn add_at(
     Ok(())
 }
 
-/// Of each of `count` numbers the lists in which it stands, ascending and each once.
+/// Of each of `count` numbers the lists that hold it, ascending and each once.
 pub(crate) fn inverted(
     alloc: Global,
     count: usize,
@@ -115,7 +115,7 @@ pub(crate) fn inverted(
     Ok(inverse)
 }
 
-/// How many numbers stand in lists.
+/// How many numbers are in lists.
 pub(crate) fn total_length(lists: &[Numbers]) -> usize
     requires { sum_by length lists.now < 2 ^ 64 }
     ensures { result ≡ sum_by length lists.now }

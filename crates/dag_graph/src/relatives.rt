@@ -49,7 +49,7 @@ fn side_of(
     Ok(lists)
 }
 
-/// The numbers that stand in these lists, as often.
+/// The numbers in the lists at these places, as often.
 fn named(alloc: Global, places: &[u32], lists: &[Numbers]) -> Result<Numbers, AllocError>
     requires { All (λ place. place < length lists.now) places.now }
     ensures { IfOk result (λ numbers. numbers ≡ named lists.now places.now) }
@@ -62,7 +62,7 @@ fn named(alloc: Global, places: &[u32], lists: &[Numbers]) -> Result<Numbers, Al
 }
 
 /// Of each node those that have a group in which it is a child, ascending and each once: each node
-/// is a parent in the groups that stand in its list, and each group has the children of its list.
+/// is a parent in the groups in its list, and each group has the children of its list.
 fn parents_by(
     alloc: Global,
     homes: &[Numbers],

@@ -30,7 +30,7 @@ impl Search {
     /// A search in a graph of so many nodes, of which none was met.
     ///
     /// # Errors
-    /// Want of memory.
+    /// Lack of memory.
     pub fn new(alloc: Global, count: usize) -> Result<Search, AllocError>
         ensures { IfOk result (λ s. s ≡ record { met = replicate count false; found = [] }) }
     {
@@ -77,7 +77,7 @@ impl Search {
     /// Nodes are met, in this order; those that were met before change nothing.
     ///
     /// # Errors
-    /// Want of memory.
+    /// Lack of memory.
     pub fn meet_all(&mut self, nodes: &[u32]) -> Result<(), AllocError>
         requires search { IsSearch self.old }
         requires below { All (λ n. n < length self.old.met) nodes.now }

@@ -24,7 +24,7 @@ use Rattle.dag_reader.proofs.Parts.{bind_ok, chosen, found}
 abbrev failed : {A : Type 0} → LineFault → Result A LineFault
 failed f = Err f
 
--- A fault of a word stands at the word.
+-- A fault of a word is at the word.
 abbrev AtWord : {A : Type 0} → PlacedText → Result A LineFault → Type 0
 AtWord {A} w r = (f : LineFault) → r ≡ failed f → span_of f ≡ w.span
 

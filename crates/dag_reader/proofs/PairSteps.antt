@@ -250,7 +250,7 @@ regroup front m (Err f) = refl
 not_blank : (x : ℕ) → is_ink x ≡ true → is_blank x ≡ false
 not_blank x h = ⊎_elim (λ (yes : is_blank x ≡ true). absurd (false≢true (sym (ap not yes) ∙ h))) (λ other. other) (cases_Bool (is_blank x))
 
--- behind blanks
+-- after blanks
 ink_next : (a b : Ahead) → skip_blanks a ≡ b → Stops is_ink b.bytes
 ink_next a b skips = subst (λ (x : Ahead). Stops is_ink x.bytes) skips (stops_at_place is_ink a.bytes)
 

@@ -12,7 +12,7 @@ use Rattle.dag_reader.specs.Macros.{is_macro_name, closing_quote, place_of, is_i
 use Rattle.dag_reader.specs.MacroReading.{Ahead, ahead, advance, skip_blanks, run_of, is_assigned, name_ahead, equals_ahead, closed_at, quoted_ahead, pair_end_ahead, pair_ahead, macro_of, macros_at}
 use Rattle.dag_reader.proofs.Parts.{bind_ok, chosen, ok_is}
 
--- b is so many bytes behind a
+-- b is so many bytes after a
 abbrev Behind : Ahead → Ahead → Type 0
 Behind a b = (n : ℕ) × (b ≡ advance n a)
 

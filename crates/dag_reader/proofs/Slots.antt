@@ -1,4 +1,4 @@
--- A command has nothing of what stood before in the places of its words and numbers.
+-- A command has nothing of what was before in the places of its words and numbers.
 use Rattle.std.proofs.Common.{◌≡◌, Bool, true, false, not, ◌&&◌, pos, if◌then◌else◌, List, [], ◌∷◌, ◌++◌, Option, Some, None, Result, Ok, Err, refl, sym, ap, subst, ◌∙◌, codes}
 use Rattle.dag_reader.specs.declared.span.Span.{Span}
 use Rattle.dag_reader.specs.declared.fault.LineFault.{LineFault}
@@ -90,7 +90,7 @@ put_alike Parent w k u v h = put_both k (name_in w) _ _ (λ n. ap (λ (r : Value
 put_alike Child w k u v h = put_both k (name_in w) _ _ (λ n. ap (λ (r : Values). record r { words = r.words ++ n ∷ [] }) h)
 put_alike Argument w k u v h = ap (λ (r : Values). record r { words = r.words ++ w ∷ [] }) h
 
--- Brackets fill none of them, and are taken whatever stands there.
+-- Brackets fill none of them, and are taken whatever is there.
 taken_only : (b : Bracket) (k : Filled) (v : Values) → (bracket b).taken v ≡ (bracket b).taken (only k v)
 taken_only Dir k v = refl
 taken_only b k v = refl
@@ -113,7 +113,7 @@ found_alike (b ∷ bs) w k u v h =
     ap (λ (t : Bool). if is_keyword (bracket b).keyword w && not t then Some b else bracket_of bs w u) same
     ∙ ap (λ (o : Option Bracket). if is_keyword (bracket b).keyword w && not ((bracket b).taken v) then Some b else o) (found_alike bs w k u v h)
 
--- What a word that may stand any number of times fills is none of them.
+-- What a word that may come any number of times fills is none of them.
 abbrev IsSteady : Ending → Type 0
 IsSteady (Brackets brackets) = Unit {0}
 IsSteady (Many field) = (k : Filled) → fills field k ≡ k
@@ -188,7 +188,7 @@ reads_only_its_fields kind before ws end =
     commands_same kind (reading (state (layout kind).fields (layout kind).ending (begun before)) ws end) (reading (state (layout kind).fields (layout kind).ending nothing) ws end)
     (alike (layout kind).fields (layout kind).ending ws end none (begun before) nothing (kind_steady kind) (nothing_filled before))
 
--- What reading by a row of the code gives, after what stood before.
+-- What reading by a row of the code gives, after what was there before.
 by_row : (l : Layout) (before : Values) (ws : List PlacedText) (end : Span) → HasRow l
     → (reading (state l.fields.now (ending_of l.ending) (begun before)) ws end >>= λ v. Ok ((layout l.kind).command v)) ≡ command_of l.kind ws end
 by_row l before ws end row =

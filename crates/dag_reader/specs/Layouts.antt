@@ -21,7 +21,7 @@ use Rattle.dag_reader.specs.Keywords.{is_keyword, is_left_out_script, is_categor
 use Rattle.dag_reader.specs.Numbers.{integer, count, at_least, nonzero}
 use Rattle.dag_reader.specs.Results.{◌>>=◌}
 
--- What may stand behind the words that a line wants: some of these, each once, in any order; any number of such words; or
+-- What may come after the words that a line wants: some of these, each once, in any order; any number of such words; or
 -- any number of parents, CHILD, and one child or more.
 pub data Ending : Type 0 where
   Brackets : List Bracket → Ending
@@ -44,7 +44,7 @@ pub record Values : Type 0 where
   pub parents : List PlacedText
   pub words : List PlacedText
 
--- A kind of line: its first word, the words that it wants behind that, what may stand behind these, and what they say.
+-- A kind of line: its first word, the words that it wants after that, what may come after these, and what they say.
 pub record Layout : Type 0 where
   pub keyword : List ℕ
   pub fields : List Field
@@ -91,7 +91,7 @@ all_kinds = kinds.Job ∷ kinds.Parent ∷ kinds.Script ∷ kinds.Retry ∷ kind
 abbrev pub line_kind : PlacedText → Option LineKind
 line_kind first = find (λ kind. is_keyword (layout kind).keyword first) all_kinds
 
--- What may stand in brackets: its keyword, the words that it wants behind that, whether it stands in the line already, and
+-- What may be in brackets: its keyword, the words that it wants after that, whether it is already in the line, and
 -- what its keyword says by itself.
 pub record BracketLayout : Type 0 where
   pub keyword : List ℕ
@@ -152,7 +152,7 @@ put Parent w v = name_in w >>= λ n. Ok (record v { parents = v.parents ++ n ∷
 put Child w v = name_in w >>= λ n. Ok (record v { words = v.words ++ n ∷ [] })
 put Argument w v = Ok (record v { words = v.words ++ w ∷ [] })
 
--- How far a line is read: the words that it still wants, what may stand behind them, and what it says so far.
+-- How far a line is read: the words that it still wants, what may come after them, and what it says so far.
 pub record State : Type 0 where
   pub fields : List Field
   pub ending : Ending
@@ -217,6 +217,6 @@ nothing = record {
   words = [];
 }
 
--- what the words behind the first say, or their fault
+-- what the words after the first say, or their fault
 abbrev pub command_of : LineKind → List PlacedText → Span → Result Command LineFault
 command_of kind ws end = reading (state (layout kind).fields (layout kind).ending nothing) ws end >>= λ v. Ok ((layout kind).command v)

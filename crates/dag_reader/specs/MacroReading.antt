@@ -21,7 +21,7 @@ pub record Ahead : Type 0 where
 abbrev pub ahead : ℕ → ℕ → List ℕ → Ahead
 ahead line at bytes = record { line = line; at = at; bytes = bytes }
 
--- what is behind a word of a line
+-- what comes after a word of a line
 abbrev pub behind : Span → List ℕ → Ahead
 behind word bytes = ahead word.line (min word.stop (length bytes)) (drop word.stop bytes)
 
@@ -53,11 +53,11 @@ run_of a = take (place_of ends_name a.bytes) a.bytes
 abbrev pub after_run : Ahead → Ahead
 after_run a = advance (place_of ends_name a.bytes) a
 
--- an equals sign is next, behind blanks or none
+-- an equals sign is next, after blanks or none
 abbrev pub is_assigned : Ahead → Bool
 is_assigned a = begins_with 61 (skip_blanks a).bytes
 
--- where the macros stand, and what is ahead then
+-- where the macros go, and what is ahead then
 unfoldable pub placement_ahead : Ahead → Placement × Ahead
 placement_ahead a =
     if is_assigned (after_run (skip_blanks a)) then (Prepend, a)

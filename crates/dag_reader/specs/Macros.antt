@@ -43,7 +43,7 @@ unquoted [] = []
 unquoted (b ∷ []) = b ∷ []
 unquoted (b ∷ c ∷ bs) = if is_escape b c then c ∷ unquoted bs else b ∷ unquoted (c ∷ bs)
 
--- how many bytes stand before the first quote that isn't escaped
+-- how many bytes come before the first quote that isn't escaped
 abbrev pub closing_quote : List ℕ → Option ℕ
 closing_quote [] = None
 closing_quote (b ∷ []) = if b == 34 then Some 0 else None

@@ -47,7 +47,7 @@ abbrev pub some_macros : List Macro → Span → Result (List Macro) LineFault
 some_macros [] end = Err (MissingWord end)
 some_macros (m ∷ ms) end = Ok (m ∷ ms)
 
--- what the words behind VARS say, in a line with these bytes: a node, and the macros behind its word
+-- what the words after VARS say, in a line with these bytes: a node, and the macros after its word
 unfoldable pub vars_of : List ℕ → List PlacedText → Span → Result Command LineFault
 vars_of bytes [] end = Err (MissingWord end)
 vars_of bytes (word ∷ ws) end = do

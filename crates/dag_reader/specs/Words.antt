@@ -23,7 +23,7 @@ abbrev pub last_of : PlacedText → List PlacedText → PlacedText
 last_of w [] = w
 last_of w (v ∷ vs) = last_of v vs
 
--- From place `at` up to `end` stand blanks alone, or none at all, and then the line ends or the other kind stands.
+-- From place `at` up to `end` there are only blanks, or none at all, and then the line ends or the other kind follows.
 pub record RunEnds (blank : Bool) (bytes : List ℕ) (at end : ℕ) : Type 0 where
   pub from : at ≤ end
   pub within : end ≤ length bytes

@@ -26,13 +26,13 @@ pub enum ScriptKind {
     Post,
 }
 
-/// Where the macros of a VARS line stand.
+/// Where the macros of a VARS line go.
 #[derive(Clone, Copy, Debug, PartialEq, Eq)]
 pub enum Placement {
     /// Before the assignments of the submit file.
     Prepend,
 
-    /// Behind them.
+    /// After them.
     Append,
 }
 
@@ -193,7 +193,7 @@ pub enum Command {
     Ignored(Span),
 }
 
-// Each function that lets a value go calls this; a derived drop stands in each, part by part.
+// Each function that drops a value calls this; a derived drop would be in each, part by part.
 impl Drop for Command {
     fn drop(self) {
         match self {
@@ -265,7 +265,7 @@ pub struct DagFile {
     pub commands: Vec<Command>,
 }
 
-// Each function that lets a value go calls this; a derived drop stands in each, part by part.
+// Each function that drops a value calls this; a derived drop would be in each, part by part.
 impl Drop for DagFile {
     fn drop(self) {
         let DagFile { commands: _ } = self;

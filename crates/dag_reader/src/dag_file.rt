@@ -25,7 +25,7 @@ const LONGEST_LINE: usize = 65_536;
 /// Reads a DAG file, as the chapter "DAG input file commands" of the HTCondor manual has it.
 ///
 /// Each line is a comment, holds no word, or is one command, those that have no effect here among
-/// them. The commands stand in the order of the lines.
+/// them. The commands are in the order of the lines.
 ///
 /// # Errors
 /// The fault of the first line that is none of these, or `Memory` where memory runs out.
@@ -103,7 +103,7 @@ fn read_words<'a>(
     Ok(Some(command(alloc, text, first, line, values)?))
 }
 
-/// The bytes of a line as a text. The line's number, from 1, stands in the fault's span.
+/// The bytes of a line as a text. The line's number, from 1, is in the fault's span.
 ///
 /// # Errors
 /// `TooLong` where the line has over 65,536 bytes, and else `NotText` at the first byte that is a
@@ -148,7 +148,7 @@ fn text_len(bytes: &[u8]) -> usize
     first_control(&bytes[..valid]).unwrap_or(valid)
 }
 
-/// Where the first control character stands.
+/// Where the first control character is.
 fn first_control(bytes: &[u8]) -> Option<usize>
     ensures { result ≡ position is_control bytes.now }
 {
@@ -183,7 +183,7 @@ fn ends_with_backslash(bytes: &[u8]) -> bool
     }
 }
 
-/// The first line of a text without its end, and the text behind it.
+/// The first line of a text without its end, and the text after it.
 ///
 /// A line is ended by LF, and a CR just before it belongs to the end. What follows the last LF is
 /// a line of its own, if it isn't empty, and a CR at its end is a byte of the line.

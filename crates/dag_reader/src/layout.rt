@@ -43,26 +43,26 @@ pub(crate) enum Field {
     /// An `i32` other than 0.
     NonZero,
 
-    /// The folder behind DIR.
+    /// The folder after DIR.
     Folder,
 
-    /// The `i32` behind UNLESS-EXIT.
+    /// The `i32` after UNLESS-EXIT.
     ExitValue,
 
-    /// The number from 0 to 255 behind RETURN.
+    /// The number from 0 to 255 after RETURN.
     ExitStatus,
 
     /// One of the names before CHILD.
     Parent,
 
-    /// One of the names behind it.
+    /// One of the names after it.
     Child,
 
     /// A word of a script's command line.
     Argument,
 }
 
-/// What may stand in brackets: a keyword, and the words that it wants.
+/// What may be in brackets: a keyword, and the words that it wants.
 #[derive(Clone, Copy)]
 pub(crate) enum Bracket {
     Dir,
@@ -88,7 +88,7 @@ impl Bracket {
         }
     }
 
-    /// The words that it wants behind that.
+    /// The words that it wants after that.
     pub(crate) fn fields(self) -> &'static [Field]
         ensures { result.now ≡ (bracket self).fields }
     {
@@ -101,7 +101,7 @@ impl Bracket {
     }
 }
 
-/// What may stand behind the words that a line wants.
+/// What may come after the words that a line wants.
 #[derive(Clone, Copy)]
 pub(crate) enum Ending {
     /// These, each once, in any order.
@@ -130,8 +130,8 @@ pub(crate) enum LineKind {
     Splice,
 }
 
-/// What a line of one kind looks like: its first word, the words that it wants behind that, and
-/// what may stand behind these.
+/// What a line of one kind looks like: its first word, the words that it wants after that, and
+/// what may come after these.
 #[derive(Clone, Copy)]
 pub(crate) struct Layout {
     pub(crate) kind: LineKind,

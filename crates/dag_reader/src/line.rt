@@ -23,7 +23,7 @@ impl<'a> LineReader<'a> {
     ghost use Rattle.dag_reader.specs.LineReader.{left_of, word_of, first_left, Takes};
     ghost use Rattle.dag_reader.specs.Words.{last_of};
 
-    /// A line of which no word is read yet. Its number, from 1, stands in each word's span.
+    /// A line of which no word is read yet. Its number, from 1, is in each word's span.
     pub fn new(number: usize, text: &'a str) -> LineReader<'a>
         ensures { left_of result ≡ first_left number text.now }
     {

@@ -1,4 +1,4 @@
-//! The macros of a VARS line, read byte by byte behind the node's word.
+//! The macros of a VARS line, read byte by byte after the node's word.
 
 ghost use Rattle.std.specs.Prelude.{◌≡◌, ◌<◌, ◌≤◌, ◌+◌, IfOk, IfSome, length, drop, position, string_bytes};
 ghost use Rattle.std.specs.List.{list_all};
@@ -21,7 +21,7 @@ pub(crate) struct MacroReader<'a> {
     ghost within: { at ≤ length text.now },
 }
 
-/// The name of one macro, and its text as it stands between the quotes.
+/// The name of one macro, and its text as it is between the quotes.
 #[derive(Clone, Copy)]
 pub(crate) struct Pair<'a> {
     name: Token<'a>,
@@ -35,7 +35,7 @@ impl<'a> MacroReader<'a> {
     ghost use Rattle.dag_reader.specs.MacroReading.{behind, skip_blanks, has_bytes, run_of, after_run, here, is_assigned, placement_ahead, name_ahead, equals_ahead, quoted_ahead, pair_end_ahead, pair_ahead, macros_ahead};
     ghost use Rattle.dag_reader.specs.MacroReader.{ahead_of, pair_of};
 
-    /// What is behind a word of a line.
+    /// What comes after a word of a line.
     pub(crate) fn new(text: &'a str, word: Span) -> MacroReader<'a>
         ensures { ahead_of result ≡ behind word text.now }
     {
@@ -61,7 +61,7 @@ impl<'a> MacroReader<'a> {
         self.at += blanks_len(self.rest());
     }
 
-    /// Passes over blanks, and tells whether a byte follows.
+    /// Passes over blanks, and says whether a byte follows.
     fn has_more(&mut self) -> bool
         ensures ahead { ahead_of self.new ≡ skip_blanks (ahead_of self.old) }
         ensures more { result ≡ has_bytes (ahead_of self.new).bytes }
@@ -105,7 +105,7 @@ impl<'a> MacroReader<'a> {
         &rest[..count]
     }
 
-    /// Whether an equals sign is next, behind blanks or none.
+    /// Whether an equals sign is next, after blanks or none.
     fn is_assigned(&self) -> bool
         ensures { result ≡ is_assigned (ahead_of self.now) }
     {
@@ -114,7 +114,7 @@ impl<'a> MacroReader<'a> {
         ahead.next_is(b'=')
     }
 
-    /// Takes the keyword that says where the macros stand, unless an equals sign follows it.
+    /// Takes the keyword that says where the macros go, unless an equals sign follows it.
     #[tactic(auto, unfolding(crate::specs::MacroReading::placement_ahead))]
     pub(crate) fn placement(&mut self) -> Placement
         ensures { placement_ahead (ahead_of self.old) ≡ (result, ahead_of self.new) }
@@ -246,7 +246,7 @@ impl Pair<'_> {
     }
 }
 
-/// How many blanks stand at the front.
+/// How many blanks are at the front.
 fn blanks_len(bytes: &[u8]) -> usize
     ensures value { result ≡ place_of is_ink bytes.now }
     ensures within { result ≤ length bytes.now }
@@ -260,7 +260,7 @@ fn first_ink(bytes: &[u8]) -> Option<usize>
     bytes.iter().position(|b| !is_blank(*b))
 }
 
-/// How many bytes stand before the first blank or equals sign.
+/// How many bytes come before the first blank or equals sign.
 fn name_len(bytes: &[u8]) -> usize
     ensures value { result ≡ place_of ends_name bytes.now }
     ensures within { result ≤ length bytes.now }
@@ -330,7 +330,7 @@ fn begins_escape(bytes: &[u8]) -> bool
     }
 }
 
-/// How many bytes stand before the first quote that is not escaped.
+/// How many bytes come before the first quote that is not escaped.
 fn closing_quote(bytes: &[u8]) -> Option<usize>
     ensures value { result ≡ closing_quote bytes.now }
     ensures within { IfSome result (λ n. n < length bytes.now) }
@@ -345,7 +345,7 @@ fn closing_quote(bytes: &[u8]) -> Option<usize>
     None
 }
 
-/// The text that stands between quotes, without the backslashes of its escapes.
+/// The text between quotes, without the backslashes of its escapes.
 fn unquoted(alloc: Global, quoted: &str) -> Result<String, AllocError>
     ensures { IfOk result (λ s. string_bytes s ≡ unquoted quoted.now) }
 {
@@ -364,7 +364,7 @@ fn unquoted(alloc: Global, quoted: &str) -> Result<String, AllocError>
     Ok(text)
 }
 
-/// Where the next backslash stands from `at` on, or the end.
+/// Where the next backslash is from `at` on, or the end.
 fn plain_end(bytes: &[u8], at: usize) -> usize
     requires { at ≤ length bytes.now }
     ensures value { result ≡ at + place_of is_backslash (drop at bytes.now) }
@@ -373,7 +373,7 @@ fn plain_end(bytes: &[u8], at: usize) -> usize
     at + plain_len(&bytes[at..])
 }
 
-/// How many bytes stand before the first backslash.
+/// How many bytes come before the first backslash.
 fn plain_len(bytes: &[u8]) -> usize
     ensures value { result ≡ place_of is_backslash bytes.now }
     ensures within { result ≤ length bytes.now }

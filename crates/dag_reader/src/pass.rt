@@ -14,14 +14,14 @@ use crate::token::Token;
 use crate::values::Values;
 use std::alloc::Global;
 
-/// How far a line is read: the words that it still wants, and what may stand behind them.
+/// How far a line is read: the words that it still wants, and what may come after them.
 #[derive(Clone, Copy)]
 pub(crate) struct Pass {
     fields: &'static [Field],
     ending: Ending,
 }
 
-/// What the words behind the first say, in a line of this layout. Whatever the values were before
+/// What the words after the first say, in a line of this layout. Whatever the values were before
 /// is forgotten.
 pub(crate) fn read_by<'a>(
     alloc: Global,
@@ -38,7 +38,7 @@ pub(crate) fn read_by<'a>(
     Ok(values.command(alloc, layout.kind)?)
 }
 
-/// Notes what the words behind the first say, each in a place of its own.
+/// Notes what the words after the first say, each in a place of its own.
 fn fill<'a>(
     alloc: Global,
     layout: &Layout,

@@ -12,7 +12,7 @@ pub struct Text {
     text: String,
 }
 
-// Each function that lets a value go calls this; a derived drop stands in each, part by part.
+// Each function that drops a value calls this; a derived drop would be in each, part by part.
 impl Drop for Text {
     fn drop(self) {
         let Text { text: _ } = self;
@@ -44,7 +44,7 @@ impl Text {
         })
     }
 
-    /// The two texts, one behind the other.
+    /// The two texts, one after the other.
     pub fn joined(alloc: Global, front: &str, back: &str) -> Result<Text, AllocError>
         ensures { IfOk result (λ t. t ≡ front.now ++ back.now) }
     {
@@ -71,7 +71,7 @@ pub struct Texts {
     texts: Vec<Text>,
 }
 
-// Each function that lets a value go calls this; a derived drop stands in each, part by part.
+// Each function that drops a value calls this; a derived drop would be in each, part by part.
 impl Drop for Texts {
     fn drop(self) {
         let Texts { texts: _ } = self;
@@ -106,7 +106,7 @@ impl Texts {
         }
     }
 
-    /// Adds a text behind the others.
+    /// Adds a text after the others.
     pub fn push(&mut self, text: Text) -> Result<(), AllocError>
         ensures ok { OnOk result (self.new ≡ self.old ++ text ∷ []) }
         ensures err { OnErr result (self.new ≡ self.old) }

@@ -1,4 +1,4 @@
-//! A word that still stands in its line, and what it can be.
+//! A word that is still part of its line, and what it can be.
 
 ghost use Rattle.std.specs.Prelude.{◌≡◌, IfOk};
 
@@ -11,7 +11,7 @@ use std::alloc::{AllocError, Global};
 /// The most bytes of a name or a category.
 const LONGEST_NAME: usize = 255;
 
-/// A word that still stands in its line, and its place.
+/// A word that is still part of its line, and its place.
 #[derive(Clone, Copy, Debug)]
 pub struct Token<'a> {
     pub text: &'a str,
@@ -127,7 +127,7 @@ impl<'a> Token<'a> {
         Ok(Target::Node(self.to_word(alloc)?))
     }
 
-    /// Whether a full stop or a plus stands in the word.
+    /// Whether a full stop or a plus is in the word.
     fn joins_names(&self) -> bool
         ensures { result ≡ list_any joins_names (word_of self.now).text }
     {

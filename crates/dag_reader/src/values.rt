@@ -29,7 +29,7 @@ pub(crate) struct Values<'a> {
     words: Words,
 }
 
-// Each function that lets a value go calls this; a derived drop stands in each, part by part.
+// Each function that drops a value calls this; a derived drop would be in each, part by part.
 impl Drop for Values<'_> {
     fn drop(self) {
         let Values {
@@ -129,7 +129,7 @@ impl<'a> Values<'a> {
         Ok(())
     }
 
-    /// Which of these brackets the word opens, of those that stand in the line not yet.
+    /// Which of these brackets the word opens, of those that are not yet in the line.
     pub(crate) fn bracket_of(&self, brackets: &[Bracket], word: &Token<'_>) -> Option<Bracket>
         ensures { result ≡ bracket_of brackets.now (word_of word.now) (values_of self.now) }
     {
@@ -139,7 +139,7 @@ impl<'a> Values<'a> {
             .find(|b| word.is(b.keyword()) && !self.has(*b))
     }
 
-    /// Whether the bracket stands in the line already.
+    /// Whether the bracket is already in the line.
     fn has(&self, one: Bracket) -> bool
         ensures { result ≡ (bracket one).taken (values_of self.now) }
     {

@@ -48,7 +48,7 @@ seen course phase told outcome h is = go (is_noop_job course phase) refl
     go true e = exit_0 outcome ((λ j. not (sym e j) || is_exit_0 outcome) ∙ h)
     go false e = is e
 
--- phases that fit stand first in the story
+-- phases that fit come first in the story
 pub story-split : (course : Course) (es : List Ended) (column : ℕ → Phase → Outcome) → Fits course es column
     → phases_of (story course column) ≡ es ++ play (after (tree_of course) es) (masked course column)
 unfolding story

@@ -15,7 +15,7 @@ pub steps-push : (course : Course) (s : MachineState) (es : List Ended) (e : End
 steps-push course s [] e = refl
 steps-push course s (x ∷ es) e = steps-push course (machine_step course s x.outcome) es e
 
--- one of two stands
+-- one of two states
 pick : (P : MachineState → Type 0) (b : Bool) (s t : MachineState) → P s → P t → P (if b then s else t)
 pick P true s t p q = p
 pick P false s t p q = q

@@ -22,11 +22,11 @@ within-done (d ∷ done) a rest n k e lt =
     (λ j. if le-leb m n (omega arith) j then d ∷ attempts_within (n - m) (done ++ a ∷ rest) else [])
     ∙ ap (λ t. d ∷ t) (within-done done a rest (n - m) k (omega arith) lt)
 
--- whatever comes, these attempts stand first, and then one with more than k phases
+-- whatever follows, these attempts come first, and then one with more than k phases
 abbrev Inside : List Attempt → ℕ → List Attempt → Type 0
 Inside done k attempts = (a : Attempt) × (rest : List Attempt) × (attempts ≡ done ++ a ∷ rest) × (k < length a.ended)
 
--- a tree and a stand that tell the same after n phases
+-- a tree and a state that say the same after n phases
 abbrev Root : ℕ → Tree → MachineState → Type 0
 Root n (Over attempts) s = (s.phase ≡ None) × (s.good ≡ is_good (newest_attempt attempts)) × (s.value ≡ value_if_any (newest_attempt attempts)) × (attempts_within n attempts ≡ attempts)
     × (length attempts ≡ suc s.attempt)
@@ -201,7 +201,7 @@ module _ (course : Course) where
             (λ j. is_none ((steps-next ∙ ap (next_of (machine_after course es)) r.1) j) && is_good (newest_attempt (attempts_after course es)))
             ∙ (λ j. is_none (sym r.1 j) && (machine_after course es).good)
 
-    -- the story is what the tree ends with, from where it stands
+    -- the story is what the tree ends with, from where it is after the phases
     story-after : attempts_after course es ≡ end_of (after (tree_of course) es) (masked course (outcome_in es))
     unfolding attempts_after story
     story-after =

@@ -1,4 +1,4 @@
--- Where a node stands, kept by one step at each phase that ends.
+-- Where a node is, kept by one step at each phase that ends.
 use Rattle.std.specs.Prelude.{ℕ, suc, ℤ, pos, Bool, true, false, ◌||◌, List, [], ◌∷◌, Option, Some, None, is_none, ◌==◌, if◌then◌else◌}
 use Rattle.std.specs.Ordering.{int_eq}
 use Rattle.node_machine.specs.declared.Phase.{Phase}
@@ -52,7 +52,7 @@ abbrev pub steps : Course → MachineState → List Ended → MachineState
 steps course machine [] = machine
 steps course machine (e ∷ es) = steps course (machine_step course machine e.outcome) es
 
--- where a node stands after these phases
+-- where a node is after these phases
 abbrev pub machine_after : Course → List Ended → MachineState
 machine_after course es = steps course (machine_before course 0 None false) es
 

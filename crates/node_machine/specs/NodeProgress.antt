@@ -3,7 +3,7 @@ use Rattle.std.specs.Prelude.{◌≡◌, ◌≤◌, Bool, true, IsSome}
 use Rattle.node_machine.specs.declared.Course.{Course}
 use Rattle.node_machine.specs.declared.MachineState.{MachineState}
 
--- what the files say, where the node stands, and whether its next phase runs
+-- what the files say, where the node is, and whether its next phase runs
 pub record NodeProgress : Type 0 where
   pub course : Course
   pub machine : MachineState

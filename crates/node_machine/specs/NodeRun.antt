@@ -1,4 +1,4 @@
--- What one node's run has behind it, and what a call makes of it.
+-- Which phases of one node's run have ended, and what a call makes of the run.
 use Rattle.std.specs.Prelude.{◌≡◌, ℕ, true, false, List, [], ◌∷◌, ◌++◌, Option, Some, None, IsTrue}
 use Rattle.node_machine.specs.declared.Phase.{Phase}
 use Rattle.node_machine.specs.declared.Outcome.{Outcome}
@@ -8,7 +8,7 @@ use Rattle.node_machine.specs.Story.{next_after, ends_with, is_history}
 use Rattle.node_machine.specs.MachineState.{machine_step, machine_after}
 use Rattle.node_machine.specs.NodeProgress.{NodeProgress}
 
--- these phases have ended, one after another, and the node stands behind them
+-- these phases have ended, one after another, and the node is in the state after them
 pub record IsStateAfter (run : NodeProgress) (es : List Ended) : Type 0 where
   pub history : IsTrue (is_history run.course es)
   pub machine : run.machine ≡ machine_after run.course es

@@ -65,7 +65,7 @@ with_job course i outcomes before =
     then decided_by (outcomes Post) (before ++ ended i outcomes Job ∷ ended i outcomes Post ∷ [])
     else decided_by (outcomes Job) (before ++ ended i outcomes Job ∷ [])
 
--- POST runs behind a failed PRE, too: the flag is set, and POST is there
+-- POST runs after a failed PRE, too: the flag is set, and POST is there
 abbrev pub always_posts : Course → Bool
 always_posts course = course.always_post && course.post
 
@@ -133,7 +133,7 @@ abbrev pub value_if_any : Option Attempt → Option ℤ
 value_if_any None = None
 value_if_any (Some a) = Some a.value
 
--- those of the attempts whose phases all stand among the first n
+-- those of the attempts whose phases are all among the first n
 abbrev pub attempts_within : ℕ → List Attempt → List Attempt
 attempts_within n [] = []
 attempts_within n (a ∷ attempts) =

@@ -12,7 +12,7 @@ pub fn histories()
         BeginsWith (phases_of (attempts_after course es)) es }
 {}
 
-/// Step by step a node stands where its story by the outcomes so far says.
+/// Step by step a node is where its story by the outcomes so far says.
 pub fn stands()
     ensures next { (course : Course) (es : List Ended) → IsTrue (is_history course es) →
         next_after course es ≡ next_of (machine_after course es) (machine_after course es).phase }

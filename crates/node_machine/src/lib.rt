@@ -1,4 +1,4 @@
-//! One node: its phases and their outcomes, its attempts, and where it stands among them.
+//! One node: its phases and their outcomes, its attempts, and where it is among them.
 //!
 //! The rules are those of the HTCondor manual, DAGMan workflows, "Node success or failure",
 //! "PRE_SKIP" and "Retrying failed nodes", as docs/MANUAL.md states them.
@@ -82,7 +82,7 @@ pub struct Course {
     pub noop: bool,
     /// A POST script runs last, and its value alone is the attempt's.
     pub post: bool,
-    /// The POST script, if there is one, runs behind a PRE script that failed, too.
+    /// The POST script, if there is one, runs after a PRE script that failed, too.
     pub always_post: bool,
     /// How often a failed attempt is repeated at most.
     pub retries: u32,
@@ -105,7 +105,7 @@ pub enum State {
     NotRun,
 }
 
-/// Where a node stands: the attempt and the phase that come next, if any, and what the last
+/// Where a node is: the attempt and the phase that come next, if any, and what the last
 /// attempt that ended came to.
 #[derive(Clone, Copy, Debug, PartialEq, Eq)]
 pub struct MachineState {

@@ -22,10 +22,10 @@ pub enum NodeFault {
     NotRunning,
 }
 
-/// One node's run: its course, where it stands, and whether its next phase runs.
+/// One node's run: its course, where it is, and whether its next phase runs.
 ///
 /// It keeps no list of the phases that ended. A contract says what it answers for every list of
-/// ended phases behind which it stands (`IsStateAfter`).
+/// ended phases that leads to its state (`IsStateAfter`).
 #[derive(Clone, Copy, Debug)]
 pub struct NodeRun {
     course: Course,

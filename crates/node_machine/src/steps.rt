@@ -34,7 +34,7 @@ fn is_exit_0(outcome: &Outcome) -> bool
     }
 }
 
-/// Where a node stands before its first attempt.
+/// Where a node is before its first attempt.
 pub(crate) fn first_stand(course: &Course) -> MachineState
     ensures { result ≡ machine_before course.now 0 None false }
 {
@@ -171,7 +171,7 @@ pub(crate) fn next_at(machine: MachineState) -> Option<(u32, Phase)>
     }
 }
 
-/// What a node that stands there has come to.
+/// What a node in this state has come to.
 pub(crate) fn state_at(machine: MachineState) -> State
     ensures { result ≡ state_by machine }
 {

@@ -116,7 +116,7 @@ impl Table {
     /// Puts an entry at the end, which counts in place of an earlier one of its key.
     ///
     /// # Errors
-    /// Want of memory. The node's other entries are lost then, so the table is to be let go.
+    /// Lack of memory. The node's other entries are lost then, so the table is to be dropped.
     pub(crate) fn push(&mut self, alloc: Global, entry: &NamedOutcome<'_>) -> Result<(), AllocError>
         ensures { OnOk result (SameOutcomes self.new (self.old ++ entry_of entry.now ∷ [])) }
     {

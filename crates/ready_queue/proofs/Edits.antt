@@ -102,7 +102,7 @@ module _ {X : Type 0} where
             (λ le. let s : place ≡ i = omega (arith, ge, le) in
             pair _ _ (ap (λ n. get_or more n d) (sym s) ∙ there) (above j (j - 1) (omega (arith, lt)) (omega (arith, lt, s))) (after (j - 1) d (omega (arith, lt, s)) (omega (arith, inside, lt)))))
 
-    -- of items in order each that is left stands before the one that was taken out, or behind it
+    -- of items in order each that is left comes before the one that was taken out, or after it
     pub pairs-removed : (xs : List X) (place : ℕ) (old : X) → place < length xs → get_or xs place old ≡ old → AllPairs R xs
         → (x : X) → Contains (remove xs place) x → R x old ⊎ R old x
     pairs-removed xs place old inside is pairs x has =

@@ -26,7 +26,7 @@ same a b n p = λ j. record { node = n j; priority = p j }
 equal : (a b : ℤ) → a ≤ℤ b → b ≤ℤ a → a ≡ b
 equal a b h k = omega (arith, ints)
 
--- of two members one stands before the other
+-- of two members one comes before the other
 pub either : (a b : Member) → (ComesBefore a b → ⊥) → a ≢ b → ComesBefore b a
 either a b not_before ne =
     by_lt_z a.priority b.priority (λ lt. inl lt)
@@ -56,7 +56,7 @@ comes-before a b = by (int_lt b.priority a.priority) (int_lt a.priority b.priori
     by false true m l is = absurd (false≢true is)
     by false false m l is = inr (equal a.priority b.priority (omega (arith, ints)) (omega (arith, ints)), ltb-true a.node b.node is)
 
--- those that stand before a member are the first in a queue
+-- those that come before a member are the first in a queue
 pub parted : (members : List Member) (member : Member) → IsOrdered members → IsPartitionedBy (λ other. comes_before other member) members
 parted members member ordered i j d below within is =
     by_lt i j
@@ -72,7 +72,7 @@ parts-at members member place within parts = record {
   behind = λ k d le lt before. false≢true (sym (parts.1 k d le lt) ∙ is-before (get_or members k d) member before);
 }
 
--- a member stands at its place and nowhere else
+-- a member is at its place and nowhere else
 pub at-place : (members : List Member) (member : Member) (place : ℕ) → IsOrdered members → IsPlaceOf members member place
     → (k : ℕ) → k < length members → get_or members k member ≡ member → (place < length members) × (get_or members place member ≡ member)
 at-place members member place ordered p k lt e =

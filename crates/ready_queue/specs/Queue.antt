@@ -17,7 +17,7 @@ abbrev pub comes_before : Member → Member → Bool
 comes_before member other =
     int_lt other.priority member.priority || (not (int_lt member.priority other.priority) && nat_lt member.node other.node)
 
--- each member stands before the later ones
+-- each member comes before the later ones
 abbrev pub IsOrdered : List Member → Type 0
 IsOrdered members = AllPairs ComesBefore members
 
@@ -42,8 +42,8 @@ pub record IsIndexed (members : List Member) (nodes : List ℕ) : Type 0 where
   pub has : (node : ℕ) → Contains (nodes_of members) node → Contains nodes node
   pub only : (node : ℕ) → Contains nodes node → Contains (nodes_of members) node
 
--- where a test has such answers: of the members at whose node it answers true, the one that stands before the others; none
--- where it answers false at each
+-- where a test has such answers: of the members at whose node it answers true, the one that comes before the others;
+-- none where it answers false at each
 abbrev pub IsBest : (ℕ → Bool → Type 0) → List Member → Option Member → Type 0
 IsBest answers members None = (other : Member) → Contains members other → answers other.node false
 IsBest answers members (Some best) =

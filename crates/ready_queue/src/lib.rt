@@ -76,7 +76,7 @@ impl Model for ReadyQueue {
     ghost invariant = { λ a. IsIndexed a.members.items a.nodes.items };
 }
 
-/// Whether one member stands before another.
+/// Whether one member comes before another.
 fn comes_before(member: Member, other: Member) -> bool
     ensures { result ≡ comes_before member other }
 {
@@ -101,7 +101,7 @@ fn is_same(member: Member, other: Member) -> bool
     member == other
 }
 
-/// Whether this member stands at its place among these.
+/// Whether this member is at its place among these.
 fn is_there(members: &[Member], member: Member, place: usize) -> bool
     requires ordered { IsOrdered members.now }
     requires place { IsPlaceOf members.now member place }

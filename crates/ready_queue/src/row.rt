@@ -1,4 +1,4 @@
-//! A row of items whose head is taken out without moving the others: where it stood there is a gap.
+//! A row of items whose head is taken out without moving the others: where it was there is a gap.
 
 ghost use Rattle.std.specs.Prelude.{◌≡◌, ◌+◌, ◌-◌, ◌<◌, ◌≤◌, [], length, drop, vec_len, vec_capacity, OnOk, IsOk};
 ghost use Rattle.std.specs.List.{insert, remove};
@@ -6,8 +6,8 @@ ghost use Rattle.std.specs.List.{insert, remove};
 use std::alloc::{AllocError, Global};
 use std::marker::Model;
 
-/// Items in a row. Where heads were taken out stands a gap, which is room too: for a new head as it is, for other items once it is
-/// closed.
+/// Items in a row. Where heads were taken out there is a gap, which is room too: for a new head as it is, for other
+/// items once it is closed.
 #[derive(Drop)]
 pub struct Row<T> {
     /// the gap, then the items
@@ -98,7 +98,7 @@ impl<T: Copy> Row<T> {
     }
 }
 
-/// Closes a gap at the head where there is no room behind the items, and says how long it is then.
+/// Closes a gap at the head where there is no room after the items, and says how long it is then.
 fn make_room<T: Copy>(all: &mut Vec<T>, gap: usize) -> usize
     requires within { gap ≤ vec_len all.old }
     requires room { 0 < vec_capacity all.old - vec_len all.old + gap }

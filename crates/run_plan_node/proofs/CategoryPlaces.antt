@@ -25,7 +25,7 @@ from_append p i (x ∷ xs) ys =
       | false ↦ from_append p (i + 1) xs ys ∙ ap (λ n. option_or (position_from p (i + 1) xs) (position_from p n ys)) e
     ]
 
--- the place of what passes a test, in a list with one more behind it
+-- the place of what passes a test, in a list with one more after it
 pub position_snoc : {X : Type 0} (p : X → Bool) (xs : List X) (x : X) → position p (xs ++ x ∷ []) ≡ option_or (position p xs) (cond (p x) (Some (length xs)) None)
 position_snoc p xs x =
     let e : 0 + length xs ≡ length xs = omega arith in

@@ -14,7 +14,7 @@ job_fault macro.TooLong = InMacro macro.TooLong
 job_fault macro.BadQuote = InMacro macro.BadQuote
 job_fault macro.BadReference = InMacro macro.BadReference
 
--- The fault that a refusal tells; for want of memory it tells none.
+-- The fault that a refusal reports; for lack of memory it reports none.
 abbrev pub told_fault : JobFault → Option JobFault
 told_fault Memory = None
 told_fault fault = Some fault

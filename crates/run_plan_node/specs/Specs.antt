@@ -30,7 +30,7 @@ abbrev pub priority_of : Option PrioritySetting → ℤ
 priority_of None = pos 0
 priority_of (Some s) = s.value
 
--- what the files say of a node's attempts, and whether POST runs behind a failed PRE, as the run was asked
+-- what the files say of a node's attempts, and whether POST runs after a failed PRE, as the run was asked
 abbrev pub course_of : Bool → FlatNode → Course
 course_of always_post node = record {
   pre = is_some node.settings.pre;

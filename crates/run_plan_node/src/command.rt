@@ -8,7 +8,7 @@ pub struct ChildCommand {
     /// The path of the program.
     pub program: Text,
 
-    /// The words behind the program's name.
+    /// The words after the program's name.
     pub words: Texts,
 
     /// The folder in which the child runs. Where it is empty, that is the manager's own.
@@ -27,7 +27,7 @@ pub struct ChildCommand {
     pub environment: Texts,
 }
 
-// Each function that lets a value go calls this; a derived drop stands in each, part by part.
+// Each function that drops a value calls this; a derived drop would be in each, part by part.
 impl Drop for ChildCommand {
     fn drop(self) {
         let ChildCommand {

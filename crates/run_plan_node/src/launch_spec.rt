@@ -45,7 +45,7 @@ pub(crate) struct LaunchSpec {
     job: Job,
 }
 
-// Each function that lets a value go calls this; a derived drop stands in each, part by part.
+// Each function that drops a value calls this; a derived drop would be in each, part by part.
 impl Drop for LaunchSpec {
     fn drop(self) {
         let LaunchSpec {
@@ -106,7 +106,7 @@ impl LaunchSpec {
         &self.job
     }
 
-    /// Those of a node that there is not.
+    /// Those of a node that does not exist.
     pub(crate) fn none(alloc: Global) -> Result<LaunchSpec, AllocError>
         ensures { IfOk result (λ launch_spec. launch_spec ≡ no_launch_spec) }
     {

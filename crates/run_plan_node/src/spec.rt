@@ -41,7 +41,7 @@ pub struct NodeSpec {
     reads_launch: bool,
 }
 
-// Each function that lets a value go calls this; a derived drop stands in each, part by part.
+// Each function that drops a value calls this; a derived drop would be in each, part by part.
 impl Drop for NodeSpec {
     fn drop(self) {
         let NodeSpec {
@@ -142,7 +142,7 @@ impl NodeSpec {
 
     /// What the files say of a node with these parents and this job, which a rescue file may have
     /// marked as done. Its category is looked for among the limits. With `always_post` its POST
-    /// script, if it has one, runs behind a PRE script that failed, too.
+    /// script, if it has one, runs after a PRE script that failed, too.
     ///
     /// # Errors
     /// `Memory` where memory is refused.
@@ -174,7 +174,7 @@ impl NodeSpec {
         })
     }
 
-    /// What stands for a node that there is not.
+    /// What is used in place of a node that does not exist.
     ///
     /// # Errors
     /// Where memory is refused.
@@ -237,10 +237,11 @@ impl NodeSpec {
         }
     }
 
-    /// What the node's job asks of a cluster in an attempt, as settings for its launcher, `name=value` each: `DAGRUN_REQUEST_CPUS`,
-    /// `DAGRUN_REQUEST_MEMORY`, `DAGRUN_REQUEST_DISK` and `DAGRUN_REQUEST_GPUS`, in this order, with what is assigned to
-    /// `request_cpus` and so on, expanded for the attempt; empty where nothing is. A text that can't be expanded, or that holds the
-    /// launch number, is there as it is written. A job without a submit file asks for nothing, and has no settings.
+    /// What the node's job asks of a cluster in an attempt, as settings for its launcher, `name=value` each:
+    /// `DAGRUN_REQUEST_CPUS`, `DAGRUN_REQUEST_MEMORY`, `DAGRUN_REQUEST_DISK` and `DAGRUN_REQUEST_GPUS`, in this order,
+    /// with what is assigned to `request_cpus` and so on, expanded for the attempt; empty where nothing is. A text that
+    /// can't be expanded, or that holds the launch number, is there as it is written. A job without a submit file asks
+    /// for nothing, and has no settings.
     ///
     /// # Errors
     /// Where memory is refused.

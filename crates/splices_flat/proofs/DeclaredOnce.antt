@@ -90,7 +90,7 @@ free_if : (taken : Bool) (path : List ℕ) (name : PlacedText) → once taken pa
 free_if true path name is = absurd cc
 free_if false path name is = refl
 
--- behind a line that declares a name, those of the others are free
+-- after a line that declares a name, those of the others are free
 free_behind : (before : List Command) (c : Command) (name : List ℕ) (names : List (List ℕ)) → declared_name c ≡ name ∷ [] → Free before (name ∷ names) → AllPairs (λ a b. a ≢ b) (name ∷ names) → Free (before ++ c ∷ []) names
 free_behind before c name names is free apart = λ k d small.
     let other = get_or names k d in

@@ -12,7 +12,7 @@ use Rattle.splices_flat.specs.Forest.{ParsedFile, Forest, none, more, Tree}
 use Rattle.splices_flat.specs.Opening.{◌>>=◌, Files, Opener, in_file, says_at, check_file, with_file, with_forest, with_splice, parsed_file, forests_joined, enter_at, open_line, open_lines, open_said, open_file, tree_at}
 use Rattle.splices_flat.specs.OpenedFiles.{Spliced, splice_in, splices_in, splice_folder, splice_path, IsSaid, AreOpened, IsOpenedTree}
 
--- what stands before a last step that succeeds
+-- what comes before a last step that succeeds
 pub bound : {A B : Type 0} (r : Result A DagFault) (f : A → Result B DagFault) (b : B) → (r >>= f) ≡ Ok b → (a : A) × (r ≡ Ok a) × (f a ≡ Ok b)
 bound (Ok a) f b is = (a, refl, is)
 bound (Err e) f b is = absurd cc

@@ -21,7 +21,7 @@ use Rattle.splices_flat.proofs.DeclaredOnce.{accepted, once_passes, passes_once}
 use Rattle.splices_flat.proofs.Opened.{declared-joined, splices-joined}
 use Rattle.splices_flat.proofs.OpeningFiles.{bound, entered, given, is-opened}
 
--- FINAL stands in a file with none above it alone.
+-- FINAL is only in a file with none above it.
 abbrev MayHaveFinal : List (List ℕ) → List Command → Type 0
 MayHaveFinal [] cs = Unit {0}
 MayHaveFinal (top ∷ []) cs = Unit {0}
@@ -73,7 +73,7 @@ count_passes used cs nodes splices =
     ap (λ (many : Bool). if many then Err TooManyNodes else accepted)
     (or_from (nat_lt 65536 (used.nodes + (own_count cs + length (finals_in cs)))) (nat_lt 4096 used.splices) (not_over 65536 _ nodes) (not_over 4096 used.splices splices))
 
--- Files that keep the rules, so many in one another, behind those that were opened before.
+-- Files that keep the rules, so many in one another, after those that were opened before.
 record Fits (left : ℕ) (used : Used) (f : Forest) : Type 0 where
   pub regular : AreRegular f
   pub depth : forest_depth f ≤ left

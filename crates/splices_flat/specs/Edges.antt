@@ -45,7 +45,7 @@ job_or_splice side scope name None = splice_nodes side scope (position (bytes_eq
 abbrev pub nodes_named : Side → NodeScope → PlacedText → List ℕ
 nodes_named side scope w = job_or_splice side scope w.text (position (bytes_eq w.text) scope.jobs)
 
--- of these words those whose text stands in no word before and is not seen yet
+-- of these words those whose text is in no word before and is not seen yet
 abbrev pub unseen : List (List ℕ) → List PlacedText → List PlacedText
 unseen seen [] = []
 unseen seen (w ∷ ws) = if list_any (bytes_eq w.text) seen then unseen seen ws else w ∷ unseen (seen ++ w.text ∷ []) ws

@@ -1,4 +1,4 @@
--- Names in PARENT lines and in settings that can't stand there.
+-- Names in PARENT lines and in settings that can't be there.
 use Rattle.std.specs.Prelude.{ℕ, ◌==◌, Bool, false, List, [], ◌∷◌, ◌++◌, position, Option, Some, None, slice_index_or, if◌then◌else◌}
 use Rattle.std.specs.List.{list_any}
 use Rattle.std.specs.Option.{option_or}

@@ -23,7 +23,7 @@ pub record Tree : Type 0 where
   pub file : ParsedFile
   pub inner : Forest
 
--- the prefix of the names in a splice: its own name and a plus behind the prefix of the file that holds it
+-- the prefix of the names in a splice: its own name and a plus after the prefix of the file that holds it
 abbrev pub inside : List ℕ → List ℕ → List ℕ
 inside prefix name = prefix ++ name ++ 43 ∷ []
 
@@ -45,7 +45,7 @@ pub record OpenFile : Type 0 where
 abbrev pub opened_as : List ℕ → ParsedFile → Forest → OpenFile
 opened_as prefix file inner = record { prefix = prefix; said = file; counts = forest_counts inner }
 
--- the files in the order of opening: each, and behind it those of its splices
+-- the files in the order of opening: each, and after it those of its splices
 abbrev pub forest_files : List ℕ → Forest → List OpenFile
 forest_files prefix none = []
 forest_files prefix (more name file inner others) =

@@ -30,7 +30,7 @@ flat_of top tree = record {
   warnings = map warning_of (warn_files nothing_warned (tree_files [] tree)).notices;
 }
 
--- once all files are open, the first name in them that can't stand where it does is the fault
+-- once all files are open, the first name in them that is where it can't be is the fault
 abbrev pub dag_unless : List ℕ → Option DagFault → Tree → Result Dag DagFault
 dag_unless top None tree = Ok (flat_of top tree)
 dag_unless top (Some fault) tree = Err fault

@@ -39,7 +39,7 @@ pub record IsSaid (files : Files) (folder path : List ℕ) (said : ParsedFile) :
   pub there : files path ≡ Some bytes
   pub says : text_at bytes ≡ Ok said.commands
 
--- The files of SPLICE lines, in a file in this folder; above stand the paths of the files that it lies in, and its own.
+-- The files of SPLICE lines, in a file in this folder; `above` has the paths of the files that it lies in, and its own.
 abbrev pub AreOpened : Files → List (List ℕ) → List ℕ → List Spliced → Forest → Type 0
 AreOpened files above folder [] none = Unit {0}
 AreOpened files above folder [] (more name file inner others) = ⊥

@@ -28,7 +28,7 @@ abbrev pub says_at : List ℕ → Option (List ℕ) → Result (List Command) Da
 says_at path None = Err (MissingFile path)
 says_at path (Some bytes) = in_file path (text_at bytes)
 
--- FINAL stands in the top file alone; these are the paths of the files that a file lies in, and its own
+-- FINAL is in the top file alone; these are the paths of the files that a file lies in, and its own
 abbrev pub final_fault : List ℕ → List Declared → Result (Unit {0}) DagFault
 final_fault path [] = Ok tt
 final_fault path (d ∷ ds) = Err (FinalInSplice path d.name.span)
@@ -130,7 +130,7 @@ open_said opener used above folder path commands =
     >>= λ _. open_lines opener (with_file used commands) above folder commands
     >>= λ inner. Ok (record { file = parsed_file path folder commands; inner = inner })
 
--- The file with this path. So many files may lie in one another; above stand those that it lies in, and itself.
+-- The file with this path. So many files may lie in one another; `above` has those that it lies in, and itself.
 abbrev pub open_file : Files → ℕ → Opener
 open_file files zero used above folder path = Err (TooDeep path)
 open_file files (suc depth) used above folder path =

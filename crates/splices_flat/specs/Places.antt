@@ -34,11 +34,11 @@ end_of Child e = e.child
 abbrev pub is_end : Side → List Edge → ℕ → Bool
 is_end side edges n = list_any (λ e. end_of side e == n) edges
 
--- of so many nodes, the first of which has the number `first`, those that stand on this side of no edge
+-- of so many nodes, the first of which has the number `first`, those that are on this side of no edge
 abbrev pub free_of : Side → ℕ → ℕ → List Edge → List ℕ
 free_of side first count edges = filter (λ n. not (is_end side edges n)) (range_with_len first count)
 
--- each mark says whether the node with that number stands on this side of an edge
+-- each mark says whether the node with that number is on this side of an edge
 abbrev pub AreSideMarks : Side → ℕ → List Edge → List Bool → Type 0
 AreSideMarks side first edges marks = (k : ℕ) → k < length marks → slice_index_or marks k false ≡ is_end side edges (first + k)
 

@@ -16,7 +16,7 @@ use Rattle.splices_flat.specs.declared.flat.MacroSetting.{MacroSetting}
 use Rattle.splices_flat.specs.declared.flat.Settings.{Settings}
 use Rattle.splices_flat.specs.Nodes.{job_names, final_names, reaches}
 
--- the number of the line that a target stands in
+-- the number of the line that a target is in
 abbrev pub line_of_target : Target → ℕ
 line_of_target (Node word) = word.span.line
 line_of_target (AllNodes span) = span.line

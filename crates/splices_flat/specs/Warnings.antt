@@ -61,7 +61,7 @@ abbrev pub with_limit : List CategoryLimit → CategoryLimit → List CategoryLi
 with_limit [] limit = limit ∷ []
 with_limit (other ∷ limits) limit = if bytes_eq limit.name other.name then limit ∷ limits else other ∷ with_limit limits limit
 
--- what is known behind some lines: the limits, and the notices of lines
+-- what is known after some lines: the limits, and the notices of lines
 pub record Warned : Type 0 where
   pub limits : List CategoryLimit
   pub notices : List Notice

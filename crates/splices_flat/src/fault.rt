@@ -48,7 +48,7 @@ pub enum DagFault {
     FinalSetting(Text, Span),
 }
 
-// Each function that lets a value go calls this; a derived drop stands in each, part by part.
+// Each function that drops a value calls this; a derived drop would be in each, part by part.
 impl Drop for DagFault {
     fn drop(self) {
         match self {

@@ -117,7 +117,7 @@ pub struct Settings {
     pub abort: Option<AbortSetting>,
 }
 
-// Each function that lets a value go calls this; a derived drop stands in each, part by part.
+// Each function that drops a value calls this; a derived drop would be in each, part by part.
 impl Drop for Settings {
     fn drop(self) {
         let Settings {
@@ -144,7 +144,7 @@ pub struct FlatNode {
     pub settings: Settings,
 }
 
-// Each function that lets a value go calls this; a derived drop stands in each, part by part.
+// Each function that drops a value calls this; a derived drop would be in each, part by part.
 impl Drop for FlatNode {
     fn drop(self) {
         let FlatNode {
@@ -175,7 +175,7 @@ pub struct EdgeGroup {
 impl EdgeGroup {
     ghost use Rattle.splices_flat.specs.Places.{nodes_on_side};
 
-    /// The numbers of the parents, or of the children; a name that stands in the line again adds none.
+    /// The numbers of the parents, or of the children; a name that is in the line again adds none.
     pub fn ends(&self, side: Side) -> &[usize]
         ensures { result.now ≡ nodes_on_side side self.now }
     {
@@ -238,7 +238,7 @@ impl fmt::Display for DagWarning {
 
 /// The nodes, edges and settings of the files of a DAG.
 ///
-/// The ordinary nodes stand in plan order: a node's number is its place, from 0. The FINAL node
+/// The ordinary nodes are in plan order: a node's number is its place, from 0. The FINAL node
 /// has the next number.
 #[derive(Debug)]
 pub struct FlatDag {
@@ -250,7 +250,7 @@ pub struct FlatDag {
     warnings: Vec<DagWarning>,
 }
 
-// Each function that lets a value go calls this; a derived drop stands in each, part by part.
+// Each function that drops a value calls this; a derived drop would be in each, part by part.
 impl Drop for FlatDag {
     fn drop(self) {
         let FlatDag {
@@ -334,7 +334,7 @@ impl FlatDag {
     }
 
     /// The pairs of parents and children, which are ordinary nodes, in the groups that PARENT lines
-    /// say; a pair may stand there more than once.
+    /// say; a pair may be there more than once.
     pub fn edges(&self) -> &[EdgeGroup]
         ensures are { edges_of result.now ≡ self.now.edges }
         ensures within { All (IsBelow (length self.now.nodes)) self.now.edges }

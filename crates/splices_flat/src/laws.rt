@@ -20,7 +20,7 @@ pub fn one_opening()
 
 /// Files are opened exactly where the rules open them: they are there, spell commands and don't lie
 /// in themselves, declare their names once and FINAL in the top file alone, and are not too many or
-/// too deep. They make a DAG exactly where no name in them stands where it can't.
+/// too deep. They make a DAG exactly where no name in them is where it can't be.
 pub fn refused_by_rules_alone()
     ensures opens { (files : Files) (top : List ℕ) (tree : Tree) →
         IsOpenedTree files top tree → IsRegular tree → tree_at files top ≡ Ok tree }

@@ -37,7 +37,7 @@ impl Numbers {
         }
     }
 
-    /// Puts a number behind the others; where memory is refused they stay as they were.
+    /// Puts a number after the others; where memory is refused they stay as they were.
     pub fn push(&mut self, number: usize) -> Result<(), AllocError>
         ensures ok { OnOk result (self.new ≡ self.old ++ number ∷ []) }
         ensures err { OnErr result (self.new ≡ self.old) }
@@ -46,7 +46,7 @@ impl Numbers {
         Ok(())
     }
 
-    /// Puts numbers behind the others.
+    /// Puts numbers after the others.
     pub fn append(&mut self, numbers: &[usize]) -> Result<(), AllocError>
         ensures { OnOk result (self.new ≡ self.old ++ numbers.now) }
     {

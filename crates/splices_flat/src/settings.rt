@@ -313,7 +313,7 @@ impl MacroSettings {
     }
 }
 
-/// The number of the line that a target stands in.
+/// The number of the line that a target is in.
 pub fn target_line(target: &Target) -> usize
     ensures { result ≡ line_of_target target.now }
 {

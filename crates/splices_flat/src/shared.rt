@@ -15,7 +15,7 @@ pub struct SharedTexts {
     texts: Rc<Texts, Global>,
 }
 
-// Each function that lets a value go calls this; a derived drop stands in each, part by part.
+// Each function that drops a value calls this; a derived drop would be in each, part by part.
 impl Drop for SharedTexts {
     fn drop(self) {
         let SharedTexts { texts: _ } = self;

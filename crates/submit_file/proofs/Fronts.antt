@@ -24,7 +24,7 @@ blank_more text n within is next =
     let e : suc n ≡ n + 1 = omega arith in
     record { within = omega arith; blank = subst (λ (k : ℕ). list_all is_blank (take k text) ≡ true) e (one_more text n within is.blank next) }
 
--- where no further blank stands, these are all
+-- where no further blank comes, these are all
 pub all_counted : (text : List ℕ) (n : ℕ) → BeginsWithBlanks n text → (n < length text → is_blank (slice_index text n) ≡ false) → drop n text ≡ trim_start text
 all_counted [] zero is stops = refl
 all_counted [] (suc n) is stops = refl

@@ -14,7 +14,7 @@ use Rattle.std.specs.Str.Lines.{lines, lines_of_parts, strip_carriage_return}
 use Rattle.submit_file.specs.Lines.{Statement, is_blank, trim_start, is_the_byte, is_comment_line, is_continued, front, statements, joined}
 use Rattle.submit_file.specs.Forms.{Saying, Silent, Assigns, Queues, Wrong, trimmed, before_equals, name_before, assigned_value, is_assigned_name, is_assignment, Form, forms, first_form, line_says}
 
--- up to an ASCII byte, and behind it
+-- up to an ASCII byte, and after it
 pub utf8_before : (bs : List ℕ) (i c : ℕ) → IsUtf8 bs → i < length bs → get_or bs i 0 ≡ c → c < 128 → IsUtf8 (take i bs)
 utf8_before bs i c u lt e low = IsUtf8-take bs i u (IsCharBoundary-before_ascii bs i lt (omega (arith, e)))
 
@@ -70,7 +70,7 @@ both_left : (a b : Bool) → (a && b) ≡ true → a ≡ true
 both_left true b h = refl
 both_left false b h = h
 
--- What stands before the first equals sign, and behind it.
+-- What is before the first equals sign, and after it.
 abbrev no_equals : ℕ → Bool
 no_equals b = not (nat_eq b 61)
 

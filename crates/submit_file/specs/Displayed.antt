@@ -1,4 +1,4 @@
--- The codes and names of the faults of a submit file. Its path, and the line, are added by who knows the path.
+-- The codes and names of the faults of a submit file. Its path, and the line, are added by whoever knows the path.
 use Rattle.std.specs.Prelude.{ℕ, List, codes}
 use Rattle.submit_file.specs.declared.fault.LineFault.{LineFault}
 use Rattle.submit_file.specs.declared.fault.LineFault.TheVariants.{BadLine, QueueCount, Unsupported}

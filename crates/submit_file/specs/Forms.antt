@@ -29,7 +29,7 @@ word_and_rest line = take_while (λ b. not (is_blank b)) line
 abbrev pub behind_word : List ℕ → List ℕ
 behind_word line = trimmed (drop (length (word_and_rest line)) line)
 
--- what stands before the first equals sign (61) of a line, and what stands behind it
+-- what is before the first equals sign (61) of a line, and what is after it
 abbrev pub before_equals : List ℕ → List ℕ
 before_equals line = take_while (λ b. not (b == 61)) line
 
@@ -53,7 +53,7 @@ is_once [] = true
 is_once (d ∷ []) = d == 49
 is_once (d ∷ e ∷ ds) = d == 48 && is_once (e ∷ ds)
 
--- words that begin what is left out
+-- words that begin an unsupported statement
 unfoldable pub begins_left_out : List ℕ → Bool
 begins_left_out word = (is_word word (codes "if") || (is_word word (codes "elif") || is_word word (codes "else"))) || (is_word word (codes "endif") || is_word word (codes "include"))
 
@@ -64,7 +64,7 @@ is_assigned_name name = nat_lt 0 (length name) && not (list_any is_blank name)
 abbrev pub is_assignment : List ℕ → Bool
 is_assignment line = nat_lt (length (before_equals line)) (length line) && is_assigned_name (name_before line)
 
--- A a_form of the table: what a line looks like without the blanks at its front, and what it says.
+-- A form of the table: what a line looks like without the blanks at its front, and what it says.
 pub record Form : Type 0 where
   pub looks : List ℕ → Bool
   pub says : List ℕ → Saying
@@ -72,13 +72,13 @@ pub record Form : Type 0 where
 abbrev a_form : (List ℕ → Bool) → (List ℕ → Saying) → Form
 a_form looks says = record { looks = looks; says = says }
 
--- The table, where a queue line stands above (queued) or none does. A line has the first form that it looks like: so U5
+-- The table, where a queue line is above (queued) or none is. A line has the first form that it looks like: so U5
 -- comes before U4, and U4 before U2, which is what a line of no form is.
 abbrev pub forms : Bool → List Form
 forms queued =
     -- no word, or a comment
     a_form is_silent (λ line. Silent)
-    -- U5: queue with other words than a count, or what is left out
+    -- U5: queue with other words than a count, or an unsupported statement
     ∷ a_form (λ line. is_queue line && not (list_all is_ascii_digit (behind_word line))) (λ line. Wrong Unsupported)
     ∷ a_form (λ line. begins_left_out (word_and_rest line) && not (begins_with 61 (behind_word line))) (λ line. Wrong Unsupported)
     -- U4: queue once more, or with another count than 1

@@ -8,7 +8,7 @@ pub record BeginsWithBlanks (count : ℕ) (text : List ℕ) : Type 0 where
   pub within : count ≤ length text
   pub blank : list_all is_blank (take count text) ≡ true
 
--- these are all of them: what is behind is the text without the blanks at its front
+-- these are all of them: what comes after them is the text without the blanks at its front
 pub record HasBlanks (count : ℕ) (text : List ℕ) : Type 0 where
   pub front : BeginsWithBlanks count text
   pub behind : drop count text ≡ trim_start text

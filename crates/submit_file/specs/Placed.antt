@@ -7,7 +7,7 @@ use Rattle.submit_file.specs.Submit.{an_assignment}
 use Rattle.submit_file.specs.declared.submit.Assignment.{Assignment}
 use Rattle.submit_file.specs.declared.placed.PlacedAssignment.{PlacedAssignment}
 
--- an assignment on the line of this number; it counts where no queue line stands above (queued)
+-- an assignment on the line of this number; it counts where no queue line is above (queued)
 abbrev pub a_placed : (queued : Bool) → (number : ℕ) → (name value : List ℕ) → PlacedAssignment
 a_placed queued number name value = record { line = number; counts = not queued; assignment = an_assignment name value }
 
@@ -16,7 +16,7 @@ abbrev pub placed_in : (queued : Bool) → (number : ℕ) → Saying → List Pl
 placed_in queued number (Assigns name value) = a_placed queued number name value ∷ []
 placed_in queued number _ = []
 
--- whether a queue line stands above what is below such a line
+-- whether a queue line is above what is below such a line
 abbrev pub is_queued_below : Bool → Saying → Bool
 is_queued_below queued Queues = true
 is_queued_below queued _ = queued
@@ -35,7 +35,7 @@ placed_of text = placed_from false (statements 1 (lines text))
 abbrev pub effective_assignments : List PlacedAssignment → List Assignment
 effective_assignments placed = map (λ p. p.assignment) (filter (λ p. p.counts) placed)
 
--- the assignments so far, and whether the queue line stood
+-- the assignments so far, and whether the queue line was read
 pub record Placing : Type 0 where
   pub placed : List PlacedAssignment
   pub queued : Bool

@@ -47,7 +47,7 @@ IsTextFault text NotText = ¬ (IsUtf8 text)
 IsTextFault text NoQueue = IsUtf8 text × IsFirstFault (statements 1 (lines text)) NoQueue
 IsTextFault text (InLine number f) = IsUtf8 text × IsFirstFault (statements 1 (lines text)) (InLine number f)
 
--- the assignments so far, and whether the queue line stood
+-- the assignments so far, and whether the queue line was read
 pub record Reading : Type 0 where
   pub assigned : List Assignment
   pub queued : Bool
@@ -65,7 +65,7 @@ with_submit_line r number (Assigns name value) = Ok (with_assignment r name valu
 with_submit_line r number Queues = Ok (record r { queued = true })
 with_submit_line r number (Wrong fault) = Err (InLine number fault)
 
--- all lines, one after the other, and then the queue line must have stood
+-- all lines, one after the other, and then the queue line must have been read
 unfoldable pub read_from : Reading → List Statement → Result (List Assignment) SubmitFault
 read_from r [] = if r.queued then Ok r.assigned else Err NoQueue
 read_from r (s ∷ ss) = with_submit_line r s.number (line_says r.queued s.text) >>= λ more. read_from more ss
@@ -73,7 +73,7 @@ read_from r (s ∷ ss) = with_submit_line r s.number (line_says r.queued s.text)
 abbrev pub submit_of : List ℕ → Result (List Assignment) SubmitFault
 submit_of text = read_from nothing_read (statements 1 (lines text))
 
--- The fault that a refusal tells; for want of memory it tells none.
+-- The fault that a refusal reports; for lack of memory it reports none.
 abbrev pub told_fault : SubmitFault → Option SubmitFault
 told_fault Memory = None
 told_fault fault = Some fault

@@ -16,7 +16,7 @@ pub enum LineFault {
     /// A queue line with a count that isn't 1, or a second queue line.
     QueueCount,
 
-    /// Other words behind `queue`; or the first word is `if`, `elif`, `else`, `endif` or `include`
+    /// Other words after `queue`; or the first word is `if`, `elif`, `else`, `endif` or `include`
     /// and no equals sign follows it.
     Unsupported,
 }
@@ -38,8 +38,8 @@ impl fmt::Display for LineFault {
 
 /// Why a submit description could not be read.
 ///
-/// It is displayed as its code and its name: who knows the file's path adds it, and the line of
-/// `InLine` behind a colon, as in `U2 BadLine a.sub:3`.
+/// It is displayed as its code and its name: whoever knows the file's path adds it, and the line of
+/// `InLine` after a colon, as in `U2 BadLine a.sub:3`.
 #[derive(Clone, Copy, Debug, PartialEq, Eq, Error)]
 pub enum SubmitFault {
     /// The bytes are not UTF-8.

@@ -10,7 +10,7 @@ use dag_reader::split_line;
 use std::alloc::{AllocError, Global};
 
 /// A line joined with those that continue it, how many lines those are together, and the text
-/// behind them.
+/// after them.
 #[derive(Drop)]
 pub(crate) struct Joined<'a> {
     pub(crate) text: Vec<u8>,
@@ -50,7 +50,7 @@ pub(crate) fn first_statement(alloc: Global, text: &[u8]) -> Result<Joined<'_>, 
     })
 }
 
-/// How many blanks stand at the front of a text whose first `from` bytes are blanks.
+/// How many blanks are at the front of a text whose first `from` bytes are blanks.
 fn blanks_end(text: &[u8], from: usize) -> usize
     requires { BeginsWithBlanks from text.now }
     ensures { HasBlanks result text.now }

@@ -1,4 +1,4 @@
-//! The assignments of a submit description with the places where they stand.
+//! The assignments of a submit description with the places where they are.
 
 ghost use Rattle.std.specs.Prelude.{◌≡◌, List, Ok, Err, IfOk};
 ghost use Rattle.std.specs.Str.{IsUtf8};
@@ -16,17 +16,17 @@ use crate::submit::{Assignment, text_of};
 use std::alloc::Global;
 use std::str;
 
-/// An assignment, and where it stands.
+/// An assignment, and where it is.
 #[derive(Debug, Drop)]
 pub struct PlacedAssignment {
     /// The number of its line, from 1; of joined lines that of the first.
     pub line: usize,
-    /// Whether it counts: what stands below the queue line has no effect.
+    /// Whether it counts: what is below the queue line has no effect.
     pub counts: bool,
     pub assignment: Assignment,
 }
 
-/// The assignments so far, and whether the queue line stood.
+/// The assignments so far, and whether the queue line was read.
 #[derive(Drop)]
 struct Placer {
     placed: Vec<PlacedAssignment>,

@@ -28,7 +28,7 @@ pub struct Submit {
     assigned: Vec<Assignment>,
 }
 
-/// The assignments so far, and whether the queue line stood.
+/// The assignments so far, and whether the queue line was read.
 #[derive(Drop)]
 struct Reader {
     assigned: Vec<Assignment>,
@@ -52,7 +52,7 @@ impl Reader {
         }
     }
 
-    /// Adds an assignment, unless the queue line stood.
+    /// Adds an assignment, unless the queue line was read.
     fn assign(&mut self, alloc: Global, name: &[u8], value: &[u8]) -> Result<(), SubmitFault>
         requires name { IsUtf8 name.now }
         requires value { IsUtf8 value.now }
@@ -81,12 +81,12 @@ pub(crate) fn text_of(alloc: Global, bytes: &[u8]) -> Result<Text, SubmitFault>
 /// Reads a submit description.
 ///
 /// Each line assigns a value to a name, queues the job, is a comment or holds no word. A backslash
-/// at a line's end joins it with the line below as it stands, but a comment is never continued.
-/// One line queues the job; what is assigned behind it has no effect.
+/// at a line's end joins it with the line below as it is, but a comment is never continued.
+/// One line queues the job; what is assigned after it has no effect.
 ///
 /// # Errors
 /// `NotText` where the bytes are not UTF-8. Else `InLine` of the first line that can't be read: its
-/// first word is that of what is left out, it queues with other words or another count than 1, it
+/// first word begins an unsupported statement, it queues with other words or another count than 1, it
 /// queues once more, or it is no assignment. Else `NoQueue` where no line queues the job. `Memory`
 /// where memory runs out.
 pub fn read_submit(alloc: Global, text: &[u8]) -> Result<Submit, SubmitFault>

@@ -1,4 +1,4 @@
--- What stands between a reference's parentheses is balanced.
+-- What is between a reference's parentheses is balanced.
 use Rattle.std.proofs.Common.{◌≡◌, ◌∙◌, sym, ap, refl, subst, ℕ, zero, suc, ◌+◌, ◌-◌, ◌≤◌, nat_eq, Bool, true, false, cond, ◌⊎◌, inl, inr, Option, Some, None, List, [], ◌∷◌, ◌++◌, length, drop, arith, append_assoc, length-append}
 use Rattle.std.proofs.lemmas.Bool.{eqb-true, eqb-false, ne_eqb}
 use Rattle.std.proofs.lemmas.List.{take_at, drop_at}
@@ -147,7 +147,7 @@ is_unclosed : (behind : List ℕ) → NeverCloses behind → first_piece (36 ∷
 unfolding first_piece closing
 is_unclosed behind never = ap (λ (found : Option ℕ). reference_to found behind) (never 0 0)
 
--- What is cut as a reference stands between parentheses, balanced.
+-- What is cut as a reference is between parentheses, balanced.
 pub is_balanced : (text inside rest : List ℕ) → first_piece text ≡ Reference inside rest → (text ≡ 36 ∷ 40 ∷ (inside ++ 41 ∷ rest)) × Balanced inside
 is_balanced text inside rest cut = by_opening (opens_or_other text)
   where
@@ -166,7 +166,7 @@ is_balanced text inside rest cut = by_opening (opens_or_other text)
     by_opening (inl opened) = by_closing opened (closed_or_not opened.behind)
     by_opening (inr other) = absurd (no_reference (subst IsOther cut other))
 
--- What is refused as unclosed has no balanced text and closing parenthesis behind its opening one.
+-- What is refused as unclosed has no balanced text and closing parenthesis after its opening one.
 pub none_closes : (text : List ℕ) → first_piece text ≡ Bad Unclosed →
     (behind : List ℕ) × (text ≡ 36 ∷ 40 ∷ behind) × ((inside rest : List ℕ) → Balanced inside → behind ≡ inside ++ 41 ∷ rest → ⊥)
 none_closes text cut = by_opening (opens_or_other text)

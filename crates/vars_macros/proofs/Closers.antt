@@ -8,7 +8,7 @@ use Rattle.vars_macros.specs.Cut.{closing_from, closing}
 use Rattle.vars_macros.proofs.Balanced.{steps_over, steps_out}
 use Rattle.vars_macros.proofs.Closings.{shifted}
 
--- The places of the parentheses that close none of the text's own, from the left, if the text stands at this place.
+-- The places of the parentheses that close none of the text's own, from the left, if the text is at this place.
 abbrev pub closers : ℕ → List ℕ → List ℕ
 closers at [] = []
 closers at (b ∷ bs) = cond (b == 41) (at ∷ closers (at + 1) bs) (cond (b == 40) (drop 1 (closers (at + 1) bs)) (closers (at + 1) bs))
@@ -17,7 +17,7 @@ one_less : (xs : List ℕ) (k : ℕ) → slice_get xs (k + 1) ≡ slice_get (dro
 one_less [] k = refl
 one_less (x ∷ xs) k = ap (slice_get (x ∷ xs)) {y = suc k} (omega arith)
 
--- The first of them closes what stands before the text, the next one what stands around that, and so on.
+-- The first of them closes what is before the text, the next one what is around that, and so on.
 found_by_depth : (at depth : ℕ) (text : List ℕ) → closing_from at depth text ≡ slice_get (closers at text) depth
 found_by_depth at depth [] = refl
 found_by_depth at depth (b ∷ bs) = by_byte (nat_eq b 41) (nat_eq b 40) refl refl (λ deep. found_by_depth (at + 1) deep bs) depth
@@ -29,7 +29,7 @@ found_by_depth at depth (b ∷ bs) = by_byte (nat_eq b 41) (nat_eq b 40) refl re
     by_byte false true other is further deep = subst (λ (c : ℕ). closing_from at deep (c ∷ bs) ≡ slice_get (closers at (c ∷ bs)) deep) (sym (eqb-true b 40 is)) (further (deep + 1) ∙ one_less (closers (at + 1) bs) deep)
     by_byte false false closes opens further deep = steps_over at deep b bs opens closes ∙ rw (closes, opens) (further deep)
 
--- Where the parenthesis stands that closes one before the text, if the text stands at this place.
+-- Where the parenthesis is that closes one before the text, if the text is at this place.
 pub first_closer : (at : ℕ) (text : List ℕ) → option_map (λ n. at + n) (closing text) ≡ slice_get (closers at text) 0
 unfolding closing
 first_closer at text = sym (shifted at 0 0 text) ∙ ap (λ (n : ℕ). closing_from n 0 text) (omega arith) ∙ found_by_depth at 0 text

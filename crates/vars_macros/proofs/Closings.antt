@@ -17,7 +17,7 @@ shifted far at depth (b ∷ bs) = by_test (b == 41 && depth == 0) (shifted far (
     by_test true further = refl
     by_test false further = ap (λ (n : ℕ). closing_from n (depth_after depth b) bs) (omega arith) ∙ further
 
--- What is found stands in the text.
+-- What is found is in the text.
 found_within : (at depth : ℕ) (text : List ℕ) (n : ℕ) → closing_from at depth text ≡ Some n → (at ≤ n) × (n < at + length text)
 found_within at depth [] n is = absurd cc
 found_within at depth (b ∷ bs) n is = by_test (b == 41 && depth == 0) (found_within (at + 1) (depth_after depth b) bs n) is
@@ -39,7 +39,7 @@ none_before end (Some n) h =
     let past : end ≤ n = h n refl in
     grind (arith, nat_tests)
 
--- In what a text begins with, the same is found, if it stands there.
+-- In what a text begins with, the same is found, if it is there.
 found_in_first : (at depth n : ℕ) (text : List ℕ) → closing_from at depth (take n text) ≡ if_before (at + n) (closing_from at depth text)
 found_in_first at depth zero [] = refl
 found_in_first at depth (suc n) [] = refl
@@ -68,7 +68,7 @@ moved_before far end (Some n) = by_test (nat_lt n end) refl
     by_test true is = is_before (far + end) (far + n) (omega (arith, ltb-true n end is))
     by_test false other = none_before (far + end) (Some (far + n)) (λ m is. let same : far + n ≡ m = cc in omega (arith, ltb-false n end other))
 
--- what stands before an end, of what stands before a later one
+-- what is before an end, of what is before a later one
 before_both : (end later : ℕ) (found : Option ℕ) → end ≤ later → if_before end (if_before later found) ≡ if_before end found
 before_both end later None h = refl
 before_both end later (Some n) h = grind (arith, nat_tests)
@@ -115,7 +115,7 @@ get_behind zero text k b is = let place : 0 + k ≡ k = omega arith in ap (slice
 get_behind (suc n) [] k b is = absurd cc
 get_behind (suc n) (c ∷ text) k b is = let place : suc n + k ≡ suc (n + k) = omega arith in ap (slice_get (c ∷ text)) place ∙ get_behind n text k b is
 
--- The pairs of a part of a text are those of what is behind its first bytes.
+-- The pairs of a part of a text are those of what is after its first bytes.
 pub pairs_in_behind : (start n : ℕ) (part : List ℕ) (pairs : ℕ → Option ℕ) → n ≤ length part → ArePairsIn start part pairs → ArePairsIn (start + n) (drop n part) pairs
 pairs_in_behind start n part pairs within are k opens =
     let end : start + n + length (drop n part) ≡ start + length part = omega (arith, within, length-drop n part) in

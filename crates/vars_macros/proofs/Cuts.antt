@@ -7,7 +7,7 @@ use Rattle.vars_macros.specs.Expansion.{Event, Wrote, Replaced, Expander, room, 
 use Rattle.vars_macros.specs.declared.assignment.Macro.{Macro}
 use Rattle.vars_macros.proofs.Room.{room_monotone, room_falls}
 
--- what is behind a piece and within it is shorter than the text
+-- what is after a piece and within it is shorter than the text
 abbrev pub Shorter : ℕ → Piece → Type 0
 Shorter n End = Unit {0}
 Shorter n (Plain b rest) = length rest < n
@@ -124,7 +124,7 @@ within_enough (suc n) (suc k) s opened vars t hn hk =
     cut_agrees s (room s.assigned opened + length t) (events_within n s) (events_within k s) opened vars t
     (λ o v u small. within_enough n k s o v u (omega arith) (omega arith)) (omega arith)
 
--- What is met in a text is what is met in its first piece and behind it.
+-- What is met in a text is what is met in its first piece and after it.
 pub cuts_enough : (s : MacroScope) (opened : List (List ℕ)) (vars : Bool) (t : List ℕ) → events s opened vars t ≡ one_cut (events s) s opened vars t
 unfolding events
 cuts_enough s opened vars t =

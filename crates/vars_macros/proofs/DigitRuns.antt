@@ -26,7 +26,7 @@ digits_have c (b ∷ bs) other is =
     let p = and_parts (is_ascii_digit b) (all_ascii_digits bs) is in
     or_from (nat_eq b c) (list_any (λ b. b == c) bs) (digit_is_not b c p.0 other) (digits_have c bs other p.1)
 
--- a byte that is no digit stands behind all the digits
+-- a byte that is no digit is after all the digits
 past_digits : (c : ℕ) (d x front : List ℕ) → is_ascii_digit c ≡ false → all_ascii_digits d ≡ true → d ++ x ≡ front ++ c ∷ [] →
     (rest : List ℕ) × (front ≡ d ++ rest) × (x ≡ rest ++ c ∷ [])
 past_digits c [] x front other is e = (front, refl, e)
@@ -79,7 +79,7 @@ begins_alike c other ends = refl
 begins_alike c other (byte b h) = refl
 begins_alike c other (numbers {x = x} {y = y} d e p q h) = number_begins c d x other p ∙ sym (number_begins c e y other q)
 
--- A byte that is no digit stands in both, or in neither.
+-- A byte that is no digit is in both, or in neither.
 pub any_alike : (c : ℕ) → is_ascii_digit c ≡ false → {x y : List ℕ} → DifferInNumbers x y → list_any (λ b. b == c) x ≡ list_any (λ b. b == c) y
 any_alike c other ends = refl
 any_alike c other (byte b h) = ap (λ (t : Bool). nat_eq b c || t) (any_alike c other h)
@@ -89,7 +89,7 @@ any_alike c other (numbers {x = x} {y = y} d e p q h) =
     ∙ ap (λ (t : Bool). list_any (λ b. b == c) e || t) (any_alike c other h)
     ∙ sym (list_any-append (λ b. b == c) e y)
 
--- what stands behind a first byte that is no digit
+-- what comes after a first byte that is no digit
 pub behind_alike : (c : ℕ) → is_ascii_digit c ≡ false → {x y : List ℕ} → DifferInNumbers x y → (xs : List ℕ) → x ≡ c ∷ xs →
     (ys : List ℕ) × (y ≡ c ∷ ys) × DifferInNumbers xs ys
 behind_alike c other ends xs is = absurd cc
@@ -100,7 +100,7 @@ behind_alike c other (byte {x = x} {y = y} b h) xs is =
 behind_alike c other (numbers {x = x} d e p q h) xs is =
     absurd (false≢true (sym (number_begins c d x other p) ∙ (ap (begins_with c) is ∙ eq-eqb c c refl)))
 
--- what stands before a last byte that is no digit
+-- what comes before a last byte that is no digit
 pub before_alike : (c : ℕ) → is_ascii_digit c ≡ false → {x y : List ℕ} → DifferInNumbers x y → (xs : List ℕ) → x ≡ xs ++ c ∷ [] →
     (ys : List ℕ) × (y ≡ ys ++ c ∷ []) × DifferInNumbers xs ys
 before_alike c other ends xs is = absurd (omega (arith, ap length is, length-append xs (c ∷ [])))

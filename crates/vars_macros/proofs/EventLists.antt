@@ -1,4 +1,4 @@
--- What is met behind one another.
+-- What is met one after another.
 use Rattle.std.proofs.Common.{◌≡◌, ◌∙◌, sym, ap, refl, ℕ, ◌+◌, Bool, false, ◌||◌, List, [], ◌∷◌, ◌++◌, map, arith}
 use Rattle.std.proofs.Math.Bool.{or_assoc}
 use Rattle.vars_macros.specs.Expansion.{Event, Wrote, Replaced, Refused}

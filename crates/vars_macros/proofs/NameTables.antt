@@ -38,7 +38,7 @@ each_last P (z ∷ zs) x each = each_last P zs x (λ j w e. each (suc j) w e)
 pub each_none : {X : Type 0} (P : X → Type 0) → Each P []
 each_none P k y at = absurd cc
 
--- What a key tells of a name.
+-- What a key says of a name.
 pub numbered : (low : List ℕ) (o : Option ℕ) (n : ℕ) (bytes : List ℕ) → (Some n, bytes) ≡ told_of low o → o ≡ Some n
 numbered low None n bytes e = let first : Some n ≡ None = ap (λ (p : Option ℕ × List ℕ). p.0) e in absurd cc
 numbered low (Some m) n bytes e = sym (ap (λ (p : Option ℕ × List ℕ). p.0) e)
@@ -83,7 +83,7 @@ place_given number places key n place apart at name = by_same (bytes_eq key name
         let eq : bytes_eq key name ≡ true = (bytes_eq-Decides key name).1 key_is in
         false≢true (sym e ∙ eq)))
 
--- A name gets the number behind all others.
+-- A name gets the number after all others.
 pub apart_given : (before after : List ℕ → Option ℕ) (key : List ℕ) (count : ℕ) → NumbersAreApart before count → IsGiven before after key count → NumbersAreApart after (count + 1)
 apart_given before after key count apart given = record {
   within = λ name n is. within_by name n (bytes_eq key name) (sym (given name) ∙ is);

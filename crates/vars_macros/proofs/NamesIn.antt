@@ -97,7 +97,7 @@ no_colon_byte b h = by_test (b == 58) refl
         let is : b ≡ 58 = grind (arith, nat_tests) in
         absurd (false≢true (sym (ap is_name_byte is) ∙ h))
 
--- how many bytes stand before the first colon
+-- how many bytes are before the first colon
 abbrev ahead_of_colon : List ℕ → ℕ
 ahead_of_colon text = position_or_len (λ b. b == 58) text
 
@@ -131,14 +131,14 @@ pub colon_first : (text : List ℕ) → begins_with 58 text ≡ true → text �
 colon_first [] h = absurd (false≢true h)
 colon_first (b ∷ bs) h = ap (λ (c : ℕ). c ∷ bs) (eqb-true b 58 h)
 
--- Nothing is behind the name.
+-- Nothing is after the name.
 pub named_whole : (text : List ℕ) (n : ℕ) → is_reference_name (take n text) ≡ true → drop n text ≡ [] → (take n text ≡ reference_name text) × (None ≡ default_of text)
 named_whole text n lawful none =
     let whole : take n text ≡ text = sym (append-nil (take n text)) ∙ ap (λ (rest : List ℕ). take n text ++ rest) (sym none) ∙ take-append-drop n text in
     let colon : colon_in text ≡ None = ap colon_in (sym whole) ∙ no_colon (take n text) (lawful_bytes (take n text) lawful) in
     (whole ∙ ap (λ (o : Option ℕ). before o text) (sym colon), ap (λ (o : Option ℕ). rest_behind o text) (sym colon))
 
--- A colon is behind it, and then the default.
+-- A colon is after it, and then the default.
 pub named_before : (text rest : List ℕ) (n : ℕ) → n ≤ length text → is_reference_name (take n text) ≡ true → drop n text ≡ 58 ∷ rest →
     (take n text ≡ reference_name text) × (Some (drop (n + 1) text) ≡ default_of text)
 named_before text rest n within lawful next =

@@ -32,7 +32,7 @@ post_alike f g word job other =
     chosen_alike (is_exactly word (codes "$PRE_SCRIPT_RETURN")) _ _ _ _ (λ _. ap signed_decimal job.pre_value) (λ _.
     chosen_alike (is_exactly word (codes "$JOBID")) _ _ _ _ (λ yes. absurd (true≢false (sym yes ∙ other))) (λ _. refl)))
 
--- a word that is the same behind a job, or of a script before it
+-- a word that is the same after a job, or of a script before it
 other_alike : (f g : ScriptFacts) (word : List ℕ) → f.post ≡ g.post → (f.post ≡ true → post_word f word ≡ post_word g word) → other_word f word ≡ other_word g word
 other_alike f g word post same =
     chosen_alike f.post (post_word f word) word (post_word g word) word same (λ _. refl)

@@ -61,7 +61,7 @@ closes : (rest : List ℕ) → begins_with 39 rest ≡ false → new_symbols fal
 unfolding is_pair new_symbol grouped_after
 closes rest is = rw is refl
 
--- a byte of a group, and what is behind it
+-- a byte of a group, and what is after it
 taken_on : (symbols : List ℕ → List Symbol) (b : ℕ) (text bytes rest : List ℕ) (ws : List (List ℕ)) (w : List ℕ) →
     gathered (gathering ws (w ++ b ∷ []) true) (symbols text) ≡ gathered (gathering ws ((w ++ b ∷ []) ++ bytes) true) (new_symbols false false rest) →
     gathered (gathering ws w true) (Letter b ∷ symbols text) ≡ gathered (gathering ws (w ++ b ∷ bytes) true) (new_symbols false false rest)

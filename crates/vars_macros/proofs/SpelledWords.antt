@@ -87,7 +87,7 @@ module _ (Part : List ℕ → List ℕ → List ℕ → Type 0) (symbols : List 
   IsWordFoundBelow n ws out = (b : ℕ) (bs : List ℕ) → length bs < n → is_space_or_tab b ≡ false → (w : List ℕ) →
       gathered (gathering ws w true) (symbols (b ∷ bs)) ≡ Ok out → IsWordFound (b ∷ bs)
 
-  -- a part that begins a text, and what its word has behind it
+  -- a part that begins a text, and what its word has after it
   from_part : (n : ℕ) (text bytes rest : List ℕ) → length rest ≤ n → Part text bytes rest → length rest < length text →
       (ws : List (List ℕ)) (w : List ℕ) (out : List (List ℕ)) → IsWordFoundBelow n ws out → gathered (gathering ws w true) (symbols rest) ≡ Ok out → IsWordFound text
   unfolding IsWordFound IsWordFoundBelow
@@ -109,7 +109,7 @@ module _ (Part : List ℕ → List ℕ → List ℕ → Type 0) (symbols : List 
       from_part n (b ∷ bs) p.0 p.1 (omega (arith, p.3)) p.2 p.3 ws (w ++ p.0) out (λ c cs less e v is. word_found n c cs less e ws v true out is)
       (sym (are.at_part p.2 ws w begun) ∙ h)
 
-  -- the words of a text, behind those that are over
+  -- the words of a text, after those that are over
   AreFound : List ℕ → List (List ℕ) → List (List ℕ) → Type 0
   AreFound text ws out = (words : List (List ℕ)) × (out ≡ ws ++ words) × SpellsWords Part text words
 

@@ -57,7 +57,7 @@ split_alike P Q (Ok words) there back h = there words h
 split_alike P Q (Err fault) there back (inl memory) = inl memory
 split_alike P Q (Err fault) there back (inr (is, none)) = inr (is, λ words spells. none words (back words spells))
 
--- A text that begins with a double quote: the words between that and the one at its end, if one stands there.
+-- A text that begins with a double quote: the words between that and the one at its end, if one is there.
 last_so : (o : Option ℕ) → unwrap_or (option_map (λ b. b == 34) o) false ≡ is_byte 34 o
 last_so None = refl
 last_so (Some b) = refl

@@ -4,7 +4,7 @@ use Rattle.std.proofs.lemmas.Str.{IsUtf8-append, IsUtf8-take, IsUtf8-drop, IsUtf
 use Rattle.std.specs.List.{slice_index}
 use Rattle.std.specs.Str.{IsUtf8}
 
--- before an ASCII byte, and behind it
+-- before an ASCII byte, and after it
 pub utf8_before : (bs : List ℕ) (i c : ℕ) → IsUtf8 bs → i < length bs → get_or bs i 0 ≡ c → c < 128 → IsUtf8 (take i bs)
 utf8_before bs i c u lt e low = IsUtf8-take bs i u (IsCharBoundary-before_ascii bs i lt (omega (arith, e)))
 

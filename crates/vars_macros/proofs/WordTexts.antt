@@ -143,7 +143,7 @@ take_whole : (xs : List ℕ) → take (length xs) xs ≡ xs
 take_whole [] = refl
 take_whole (x ∷ xs) = ap (λ (ys : List ℕ). x ∷ ys) (take_whole xs)
 
--- what is behind a double quote
+-- what is after a double quote
 pub behind_text : (text : List ℕ) → begins_with 34 text ≡ true → IsUtf8 text → IsUtf8 (take (length text - 1) (drop 1 text))
 behind_text [] h u = absurd (false≢true h)
 behind_text (b ∷ bs) h u =

@@ -114,7 +114,7 @@ meaning_text s vars name default texts u =
     (decided P (same_name name (codes "JOB")) _ _ (λ _. texts.job) (λ _.
     decided P (same_name name (codes "RETRY")) (Fixed false s.retry) (Value vars (unwrap_or default [])) (λ _. texts.retry) (λ _. u)))))))
 
--- what is written for a text, behind the bytes p of a character of which the text may have the others
+-- what is written for a text, after the bytes p of a character of which the text may have the others
 abbrev IsWritten : List ℕ → List ℕ → List Event → Type 0
 IsWritten p t es = IsUtf8 (p ++ t) → NoneRefused es → IsUtf8 (p ++ written_in es)
 

@@ -12,8 +12,8 @@ is_space_or_tab b = b == 32 || b == 9
 abbrev pub is_quote : ℕ → Bool
 is_quote b = b == 34 || b == 39
 
--- A group, behind the single quote that opens it: bytes but quotes, two quotes of a kind for one of them, and at last the
--- single quote that closes it, which no further one follows.
+-- A group, after the single quote that opens it: bytes but quotes, two quotes of a kind for one of them, and at last
+-- the single quote that closes it, which no further one follows.
 pub data SpellsGroup : List ℕ → List ℕ → List ℕ → Type 0 where
   group_end : {rest : List ℕ} → begins_with 39 rest ≡ false → SpellsGroup (39 ∷ rest) [] rest
   group_byte : {text bytes rest : List ℕ} (b : ℕ) → is_quote b ≡ false → SpellsGroup text bytes rest → SpellsGroup (b ∷ text) (b ∷ bytes) rest
@@ -41,19 +41,20 @@ abbrev pub ends_word : List ℕ → Bool
 ends_word [] = true
 ends_word (b ∷ bs) = is_space_or_tab b
 
--- The words of a whole text, with blanks in front, behind and between: where a word ends is a blank, or the end.
+-- The words of a whole text, with blanks before, after and between: where a word ends is a blank, or the end.
 pub data SpellsWords (Part : List ℕ → List ℕ → List ℕ → Type 0) : List ℕ → List (List ℕ) → Type 0 where
   end : SpellsWords Part [] []
   blank : {text : List ℕ} {words : List (List ℕ)} (b : ℕ) → is_space_or_tab b ≡ true → SpellsWords Part text words → SpellsWords Part (b ∷ text) words
   word : {text bytes rest : List ℕ} {words : List (List ℕ)} → SpellsWord Part text bytes rest → ends_word rest ≡ true →
       SpellsWords Part rest words → SpellsWords Part text (bytes ∷ words)
 
--- Arguments: new style stands between two double quotes, old style begins with none.
+-- Arguments: new style is between two double quotes, old style begins with none.
 pub data SpellsArguments : List ℕ → List (List ℕ) → Type 0 where
   new_style : {body : List ℕ} {words : List (List ℕ)} → SpellsWords SpellsNewPart body words → SpellsArguments (34 ∷ (body ++ 34 ∷ [])) words
   old_style : {text : List ℕ} {words : List (List ℕ)} → begins_with 34 text ≡ false → SpellsWords SpellsOldPart text words → SpellsArguments text words
 
--- What is answered of a text of such words: the words that it spells, or BadQuote where it spells none; or memory ran out.
+-- What is answered of a text of such words: the words that it spells, or BadQuote where it spells none; or memory ran
+-- out.
 abbrev pub IsSplit : (List (List ℕ) → Type 0) → Result (List (List ℕ)) MacroFault → Type 0
 IsSplit Spells (Ok words) = Spells words
 IsSplit Spells (Err fault) = (fault ≡ Memory) ⊎ ((fault ≡ BadQuote) × ((words : List (List ℕ)) → Spells words → ⊥))

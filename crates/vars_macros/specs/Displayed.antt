@@ -1,4 +1,4 @@
--- The codes and names of the faults of an expansion. The node is added by who knows it.
+-- The codes and names of the faults of an expansion. The node is added by whoever knows it.
 use Rattle.std.specs.Prelude.{ℕ, List, codes}
 use Rattle.vars_macros.specs.declared.fault.MacroFault.{MacroFault}
 use Rattle.vars_macros.specs.declared.fault.MacroFault.TheVariants.{Unclosed, Loop, TooLong, BadQuote, BadReference, Memory}

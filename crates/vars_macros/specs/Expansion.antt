@@ -45,7 +45,7 @@ piece_events expand s opened vars (Bad fault) = Refused fault ∷ []
 abbrev pub one_cut : Expander → MacroScope → Expander
 one_cut expand s opened vars text = piece_events expand s opened vars (first_piece text)
 
--- with at most this many cuts behind one another
+-- with at most this many cuts one after another
 abbrev pub events_within : ℕ → MacroScope → Expander
 events_within zero s opened vars text = []
 events_within (suc cuts) s opened vars text = one_cut (events_within cuts s) s opened vars text

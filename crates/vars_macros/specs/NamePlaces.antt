@@ -1,4 +1,4 @@
--- The names that stand in a text, and where they begin.
+-- The names that are in a text, and where they begin.
 use Rattle.std.specs.Prelude.{◌≡◌, ℕ, ◌+◌, ◌≤◌, true, List, length, take, drop, Option, Some, None}
 use Rattle.std.specs.BTreeMap.{get}
 use Rattle.std.specs.Ordering.{nat_cmp}
@@ -18,7 +18,7 @@ pub record IsNameOf (names : Names) (text : List ℕ) (name : Name) : Type 0 whe
   pub lawful : is_reference_name (take name.len text) ≡ true
   pub numbered : number_of_name names (lower (take name.len text)) ≡ Some name.number
 
--- Each of these names stands in the text at its place.
+-- Each of these names is in the text at its place.
 abbrev pub AreNamesOf : Names → List ℕ → (ℕ → Option Name) → Type 0
 AreNamesOf names text table = (at : ℕ) (name : Name) → table at ≡ Some name → IsNameOf names (drop at text) name
 

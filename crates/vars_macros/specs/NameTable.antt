@@ -32,7 +32,7 @@ IsGiven before after key place = (name : List ℕ) → after name ≡ (if bytes_
 abbrev pub HaveSameNumbers : Names → Names → Type 0
 HaveSameNumbers a b = (key : List ℕ) → number_of_name a key ≡ number_of_name b key
 
--- what a key tells: the number, or the bytes
+-- what a key gives: the number, or the bytes
 abbrev pub key_parts : Key → Option ℕ × List ℕ
 key_parts (Numbered number) = (Some number, [])
 key_parts (Spelled bytes) = (None, string_bytes bytes)

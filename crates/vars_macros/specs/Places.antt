@@ -21,6 +21,6 @@ pub record GivesLast (place : List ℕ → Option ℕ) (ms : List Macro) : Type 
   pub last : (name : List ℕ) → at_place ms (place (lower name)) ≡ last_macro ms name
   pub within : (name : List ℕ) (k : ℕ) → place name ≡ Some k → k < length ms
 
--- The names of an assignment's value stand where its table says, with these numbers.
+-- The names of an assignment's value are where its table says, with these numbers.
 abbrev pub HasPlaces : Names → Assigned → Type 0
 HasPlaces names a = AreNamesOf names a.one.value (name_at a.places)

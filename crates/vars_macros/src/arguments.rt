@@ -19,10 +19,10 @@ use std::alloc::Global;
 /// words are separated by blanks, single quotes open and close a group whose blanks are bytes of the
 /// word, two single quotes within a group are one, two double quotes are one, and an empty group is
 /// an empty word. Any other text is old style: words are separated by blanks, and a double quote
-/// behind a backslash is a double quote.
+/// after a backslash is a double quote.
 ///
 /// # Errors
-/// `BadQuote` of a text in new style that no double quote ends, in which another stands alone, or
+/// `BadQuote` of a text in new style that no double quote ends, in which another is unpaired, or
 /// whose group is open at its end. `Memory` where memory runs out.
 pub fn split_arguments(alloc: Global, text: &str) -> Result<Texts, MacroFault>
     // The words are those that the text spells, and it is refused where it spells none.

@@ -14,7 +14,7 @@ use crate::meaning::same_name;
 use crate::naming::Name;
 use crate::part::Part;
 
-/// What comes first in a text, and the text behind it.
+/// What comes first in a text, and the text after it.
 pub(crate) enum Piece<'a> {
     End,
     Plain(u8, Part<'a>),
@@ -49,7 +49,7 @@ fn after_dollar(text: Part<'_>) -> Piece<'_>
     Piece::Plain(b'$', text)
 }
 
-/// The reference that a text begins with, behind its dollar sign.
+/// The reference that a text begins with, after its dollar sign.
 fn reference(text: Part<'_>) -> Piece<'_>
     requires { slice_get text.bytes.now 0 ≡ Some 40 }
     ensures piece { piece_of result ≡ reference_to (closing (drop 1 text.entry.bytes.now)) (drop 1 text.entry.bytes.now) }
@@ -64,7 +64,7 @@ fn reference(text: Part<'_>) -> Piece<'_>
     }
 }
 
-/// Whether another dollar sign or a word stands first, and then an opening parenthesis.
+/// Whether another dollar sign or a word comes first, and then an opening parenthesis.
 #[tactic(auto, unfolding(crate::specs::Cut::is_foreign))]
 fn is_foreign(text: &[u8]) -> bool
     ensures { result ≡ is_foreign text.now }
@@ -76,7 +76,7 @@ fn is_foreign(text: &[u8]) -> bool
     }
 }
 
-/// How many bytes at the front may stand in a name.
+/// How many bytes at the front may be in a name.
 pub(crate) fn word_len(text: &[u8]) -> usize
     ensures value { result ≡ length (take_while is_name_byte text.now) }
     ensures within { result ≤ length text.now }
@@ -109,7 +109,7 @@ pub(crate) struct Named<'a> {
     pub(crate) default: Option<Part<'a>>,
 }
 
-/// The reference between whose parentheses this stands, if it may have its name.
+/// The reference between whose parentheses this is, if it may have its name.
 pub(crate) fn reference_in(inside: Part<'_>) -> Option<Named<'_>>
     ensures some { IfSome result (λ named. IsNamedIn inside.entry named) }
     ensures none { IfNone result (is_reference_name (reference_name inside.entry.bytes.now) ≡ false) }
@@ -164,8 +164,8 @@ fn spelled_reference(inside: Part<'_>) -> Option<Named<'_>>
     })
 }
 
-/// The name of a reference, which is what stands before a colon between its parentheses, and the
-/// default behind it.
+/// The name of a reference, which is what comes before a colon between its parentheses, and the
+/// default after it.
 fn name_and_default(inside: Part<'_>) -> (&[u8], Option<Part<'_>>)
     ensures name { result.0.now ≡ reference_name inside.entry.bytes.now }
     ensures default { option_map text_of_part result.1 ≡ default_of inside.entry.bytes.now }

@@ -35,7 +35,7 @@ pub struct Attempt {
 ///
 /// # Errors
 /// The first fault from the left, those of what a reference stands for at its place: `BadReference`
-/// of a parenthesis behind two dollar signs or behind a dollar sign and a word, `Unclosed`,
+/// of a parenthesis after two dollar signs or after a dollar sign and a word, `Unclosed`,
 /// `BadReference` of a name, `Loop`, and `TooLong` at the byte or the reference that is too many.
 /// `Memory` where memory runs out.
 pub fn expand(

@@ -9,10 +9,10 @@ use thiserror::Error;
 
 /// Why a text could not be expanded or split.
 ///
-/// It is displayed as its code and its name: who knows the node adds it.
+/// It is displayed as its code and its name: whoever knows the node adds it.
 #[derive(Clone, Copy, Debug, PartialEq, Eq, Error)]
 pub enum MacroFault {
-    /// A parenthesis behind a dollar sign is not closed.
+    /// A parenthesis after a dollar sign is not closed.
     Unclosed,
 
     /// A name is referred to within its own expansion.
@@ -21,11 +21,11 @@ pub enum MacroFault {
     /// More than 65,536 bytes are written, or more than 65,536 references replaced.
     TooLong,
 
-    /// A double quote stands alone, or a group is not closed.
+    /// A double quote is unpaired, or a group is not closed.
     BadQuote,
 
     /// A reference whose name is empty, has other bytes than letters, digits, `_` and `.`, or is
-    /// `DOLLAR`; or a parenthesis behind two dollar signs, or behind a dollar sign and a word.
+    /// `DOLLAR`; or a parenthesis after two dollar signs, or after a dollar sign and a word.
     BadReference,
 
     /// Memory ran out.

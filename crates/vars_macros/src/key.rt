@@ -14,7 +14,7 @@ pub(crate) enum Key {
     Spelled(String),
 }
 
-// Each function that lets a value go calls this; a derived drop stands in each, part by part.
+// Each function that drops a value calls this; a derived drop would be in each, part by part.
 impl Drop for Key {
     fn drop(self) {
         match self {

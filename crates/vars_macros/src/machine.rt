@@ -33,7 +33,7 @@ pub(crate) enum Event<'a> {
 }
 
 /// A text that is expanded, as far as it is left. The names whose expansions have begun and are not
-/// done stand in the table by their keys, the innermost last.
+/// done are in the table by their keys, the innermost last.
 #[derive(Drop)]
 pub(crate) struct Machine<'a> {
     alloc: Global,
@@ -92,7 +92,7 @@ impl<'a> Machine<'a> {
         }
     }
 
-    /// Goes on behind a reference, or into what it stands for.
+    /// Goes on after a reference, or into what it stands for.
     fn reference(&mut self, inside: Part<'a>, after: Part<'a>) -> Result<Event<'a>, AllocError>
         requires inside { HaveSameNumbers inside.names.now self.old.scope.names.now }
         requires after { HaveSameNumbers after.names.now self.old.scope.names.now }

@@ -29,7 +29,7 @@ pub struct Macros {
     pub(crate) names: Names,
 }
 
-// Each function that lets a value go calls this; a derived drop stands in each, part by part.
+// Each function that drops a value calls this; a derived drop would be in each, part by part.
 impl Drop for Macros {
     fn drop(self) {
         let Macros {
@@ -75,7 +75,7 @@ impl Macros {
         })
     }
 
-    /// Assigns a value to a name, behind all others: of two values of a name, in any case of ASCII
+    /// Assigns a value to a name, after all others: of two values of a name, in any case of ASCII
     /// letters, the later counts. So macros that are prepended come first, then the submit file's
     /// assignments, then macros that are appended. `vars` says that the value is the text of a VARS
     /// line.
@@ -125,7 +125,7 @@ impl Macros {
     }
 }
 
-/// Puts an assignment behind all others.
+/// Puts an assignment after all others.
 fn push(all: &mut Vec<Assigned>, last: Assigned) -> Result<(), AllocFailed<Assigned>>
     ensures ok { OnOk result (all.new.items ≡ all.old.items ++ last ∷ []) }
     ensures macros { OnOk result (macros_in all.new.items ≡ macros_in all.old.items ++ last.one ∷ []) }

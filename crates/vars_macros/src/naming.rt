@@ -9,14 +9,14 @@ use crate::numbering::Names;
 use std::alloc::{AllocError, Global};
 use std::collections::BTreeMap;
 
-/// How long a name is that stands in a text, and its number.
+/// How long a name in a text is, and its number.
 #[derive(Clone, Copy, Debug)]
 pub(crate) struct Name {
     pub(crate) len: usize,
     pub(crate) number: usize,
 }
 
-/// The names behind the parentheses of a text, by the places where they begin.
+/// The names after the parentheses of a text, by the places where they begin.
 #[derive(Debug, Drop)]
 pub(crate) struct NamePlaces {
     names: BTreeMap<usize, Name>,

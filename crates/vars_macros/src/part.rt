@@ -66,7 +66,7 @@ impl<'a> Part<'a> {
         self.bytes
     }
 
-    /// What is behind the first `n` bytes.
+    /// What is after the first `n` bytes.
     pub(crate) fn behind(self, n: usize) -> Part<'a>
         requires { n ≤ length self.bytes.now }
         ensures bytes { result.bytes.now ≡ drop n self.entry.bytes.now }
@@ -96,7 +96,7 @@ impl<'a> Part<'a> {
         }
     }
 
-    /// Of a part that a parenthesis opens: how many bytes stand between it and the one that closes
+    /// Of a part that a parenthesis opens: how many bytes are between it and the one that closes
     /// it.
     pub(crate) fn closing(self) -> Option<usize>
         requires { slice_get self.bytes.now 0 ≡ Some 40 }

@@ -4,7 +4,7 @@ use Rattle.ready_queue.specs.Queue.{AreRising}
 use Rattle.ready_queue.proofs.Indexed.{still-rising, with-node}
 use Rattle.ready_queue.proofs.nodes.add_node.Goals as goal
 
--- the nodes with this one, as those that were lent
+-- the nodes with this one, as those that were borrowed
 is-insert : (c : goal.After-insert) → c.insert.new.self.items ≡ insert c.items.result.now c.in-Err.place c.args.node
 is-insert c = c.insert.ensures.items ∙ ap (λ nodes. insert nodes c.in-Err.place c.args.node) (sym c.items.ensures)
 
