@@ -353,7 +353,7 @@ def completion_of_bash(folder):
     same(completed(folder, "dagrun why --"), ["--all", "--as-begun", "--help", "--json", "--trust-owner"])
     same(completed(folder, "dagrun check --"), ["--all", "--condor", "--help", "--hints", "--json"])
     same(completed(folder, "dagrun salvage --"), ["--ended", "--help", "--trust-owner"])
-    for name, more in (("audit", ["--json"]), ("graph", ["--as-is", "--fold"]), ("status", ["--json"])):
+    for name, more in (("audit", ["--json"]), ("graph", ["--as-is", "--fold", "--no-fold"]), ("status", ["--json"])):
         same(completed(folder, f"dagrun {name} --"), sorted(["--as-begun", "--help", "--trust-owner", *more]))
     same(completed(folder, "dagrun run --autorescue "), ["0", "1"])
     same(completed(folder, "dagrun run --autorescue="), ["0", "1"])

@@ -1024,6 +1024,9 @@ def words_that_are_no_request(folder):
         ("status",),
         ("graph",),
         ("graph", "x.dag", "y.dag"),
+        ("graph", "--fold", "--no-fold", "x.dag"),
+        ("graph", "--no-fold=1", "x.dag"),
+        ("status", "--no-fold", "x.dag"),
         ("explain", "L99"),
         ("explain", "L1", "L2"),
         ("help", "fly"),
@@ -1149,8 +1152,9 @@ def a_picture_of_a_run(folder):
     for words, nodes in (((), behind), (("--as-begun",), behind), (("--as-is",), other)):
         text, told, status = folder.call("graph", *words, "x.dag")
         same((drawn(text), told, status), (nodes, "", 0))
-    text, told, status = folder.call("graph", "--as-is", "--as-begun", "x.dag")
-    same((text, "cannot be used with" in told, status), ("", True, 125))
+    for words in (("--as-is", "--as-begun"), ("--fold", "--no-fold"), ("--no-fold", "--fold")):
+        text, told, status = folder.call("graph", *words, "x.dag")
+        same((words, text, f"'{words[0]}' cannot be used with '{words[1]}'" in told, status), (words, "", True, 125))
     os.remove(folder.at("x.dag.begun"))
     text, told, status = folder.call("graph", "x.dag")
     same((drawn(text), told, status), (other, "", 0))

@@ -277,8 +277,8 @@ class Folder:
         done = subprocess.run([self.program, *words], cwd=self.path, capture_output=True, timeout=PATIENCE, env=environment)
         return done.stdout.decode(), done.stderr.decode(), done.returncode
 
-    def on_terminal(self, *words, columns=80, steps=(), term="xterm", limit=None, killed=None, typed=None, no_color=None):
-        """Calls the program with standard error on a terminal. `steps`: what is to be seen, one after the other, each a line with 0 seconds in
+    def on_terminal(self, *words, columns=80, steps=(), term="xterm", limit=None, killed=None, typed=None, no_color=None, printed=False):
+        """Calls the program with standard error on a terminal, and `printed` with standard output on it, too. `steps`: what is to be seen, one after the other, each a line with 0 seconds in
         place of however many there are, or a function of a line; and then the columns of the terminal from there on, or the file that is made,
         for which jobs may wait, or what is called: so they run until it is seen, however slow the machine is. `limit`: bytes that a file may have; `killed`: whether a line is
         the one that is to be seen before the program is killed; `typed`: standard input is the terminal, too, on which this is typed, with no echo; `no_color`:
@@ -307,7 +307,8 @@ class Folder:
         began = time.monotonic()
         with tempfile.TemporaryFile() as output:
             run = subprocess.Popen(
-                [self.program, *words], cwd=self.path, stdin=subprocess.DEVNULL if typed is None else theirs, stdout=output, stderr=theirs, env=environment,
+                [self.program, *words], cwd=self.path, stdin=subprocess.DEVNULL if typed is None else theirs, stdout=theirs if printed else output, stderr=theirs,
+                env=environment,
                 preexec_fn=prepare, restore_signals=False,
             )
             os.close(theirs)
@@ -365,6 +366,9 @@ def holds(fact, what):
     if not fact:
         raise AssertionError(what)
 
+
+# What comes after a picture that is folded though nobody asked for it.
+FOLDED = "folded: nodes of one shape are one box; --no-fold shows each node, as into a file"
 
 # What is to be seen while the pairs of `four` run, which wait for it.
 FIRST_PAIR = "0/4 done (0%), 2 running (A 0 s, B 0 s), 0 ready  0:00"
@@ -816,6 +820,9 @@ def what_is_changed(folder):
     ):
         told = folder.on_terminal(*words, "my flow.dag", columns=160)
         same((told.status, told.screen.told()), (0, lines))
+    # Where the picture is on the terminal, too, that it is folded comes first.
+    told = folder.on_terminal("graph", "my flow.dag", columns=160, printed=True)
+    same(told.screen.told()[-3:], ["}", FOLDED, f"{changed}; dagrun graph --as-is 'my flow.dag' draws the files as they are"])
     # The same file by another path.
     folder.shell("B", "exit 1\n", error=False)
     told = folder.on_terminal("run", "./my flow.dag", columns=160)
@@ -840,6 +847,42 @@ def what_is_changed(folder):
     told = folder.on_terminal("why", "my flow.dag", columns=160)
     same((told.status, told.text.splitlines()[0].startswith("B ERROR: its job ended with exit 1")), (0, True))
     same(told.screen.told(), ["no manager works on my flow.dag", "changed since the round began: B.sub, my flow.dag"])
+
+
+def a_folded_picture(folder):
+    """`graph` draws one box for nodes of one shape where standard output is a terminal and no option says otherwise, and then a line says so where standard error is one."""
+    points = ("P1", "P2", "P3")
+    lines = [f"JOB {name} point.sub" for name in points]
+    folder.write("x.dag", "\n".join(["JOB Fetch fetch.sub", *lines, "JOB Plot plot.sub", "PARENT Fetch CHILD P1 P2 P3", "PARENT P1 P2 P3 CHILD Plot"]) + "\n")
+
+    def picture(labels, edges):
+        head = ["digraph dag {", "    node [shape=box, style=filled, fillcolor=white];"]
+        return [*head, *(f'    "{name}" [label="{label}"];' for name, label in labels), *(f'    "{one}" -> "{other}";' for one, other in edges), "}"]
+
+    boxes = picture([("Fetch", "Fetch"), ("P1", "P1 x 3"), ("Plot", "Plot")], [("Fetch", "P1"), ("P1", "Plot")])
+    nodes = picture([(name, name) for name in ("Fetch", *points, "Plot")], [("Fetch", name) for name in points] + [(name, "Plot") for name in points])
+    # Both streams are the terminal.
+    for words, shown in (((), [*boxes, FOLDED]), (("--fold",), boxes), (("--no-fold",), nodes), (("--as-is",), [*boxes, FOLDED]), (("--no-fold", "--as-is"), nodes)):
+        told = folder.on_terminal("graph", *words, "x.dag", columns=160, printed=True)
+        same((words, told.status, told.text, told.screen.told()), (words, 0, "", shown))
+    # Standard output is a file, or a pipe: each node, whatever standard error is.
+    for words, drawn in (((), nodes), (("--no-fold",), nodes), (("--fold",), boxes)):
+        text = "\n".join(drawn) + "\n"
+        told = folder.on_terminal("graph", *words, "x.dag", columns=160)
+        same((words, told.status, told.text, told.screen.told()), (words, 0, text, []))
+        same((words, folder.call("graph", *words, "x.dag")), (words, (text, "", 0)))
+    # Standard error is a file: nothing is said there.
+    shell = Folder("/bin/sh", folder.path)
+    told = shell.on_terminal("-c", f"{folder.program} graph x.dag 2> told", columns=160, printed=True)
+    same((told.status, told.screen.told(), folder.read("told")), (0, boxes, b""))
+    # What is refused is not folded, and the two options can't stand side by side.
+    told = folder.on_terminal("graph", "no.dag", columns=160, printed=True)
+    same((told.status, told.screen.told()[0], FOLDED in told.screen.told()), (125, "dagrun: S1 MissingFile no.dag", False))
+    told = folder.on_terminal("graph", "--fold", "--no-fold", "x.dag", columns=160, printed=True)
+    same((told.status, told.screen.told()[0]), (125, "error: the argument '--fold' cannot be used with '--no-fold'"))
+    # Nothing else goes by that: what other commands print there is what they print elsewhere.
+    told = folder.on_terminal("rehearse", "x.dag", columns=160, printed=True)
+    same((told.screen.told(), "", told.status), (folder.call("rehearse", "x.dag")[0].splitlines(), "", 0))
 
 
 def how_the_next_round_begins(folder):
@@ -1316,6 +1359,7 @@ ROWS = [
     what_is_odd,
     what_can_not_be_noted,
     what_is_changed,
+    a_folded_picture,
     how_the_next_round_begins,
     a_salvage_that_is_refused,
     a_changed_copy,

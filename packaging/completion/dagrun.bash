@@ -49,7 +49,7 @@ _dagrun() {
         audit) options='--json --as-begun --trust-owner --help' ;;
         check) options='--all --json --hints --condor --help' ;;
         rehearse) options='--maxjobs --maxpre --maxpost --always-run-post --help' ;;
-        graph) options='--fold --as-is --as-begun --trust-owner --help' ;;
+        graph) options='--fold --no-fold --as-is --as-begun --trust-owner --help' ;;
         explain) options='--help' ;;
         help) options='--help' ;;
         version) options='--json --help' ;;

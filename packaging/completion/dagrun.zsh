@@ -144,7 +144,8 @@ _dagrun() {
         graph)
             _arguments \
                 '(-h --help)'{-h,--help}'[Print help]' \
-                '--fold[Nodes of one submit file with the same parents and children have one box, with how many they are]' \
+                '--fold[Nodes of one submit file with the same parents and children have one box, with how many they are; the default on a terminal]' \
+                '--no-fold[Each node has a box of its own, also on a terminal; the default into a file or a pipe]' \
                 '--as-is[Draws the files as they are, also where they were changed since the round began]' \
                 '--as-begun[Goes by the files with which the round began, as x.dag.begun keeps them, whatever was changed since]' \
                 '--trust-owner[Root goes by the journal, the rescue files and the lock of another user, and others by those of root]' \

@@ -18,10 +18,11 @@ are_two one other third fourth =
     (one && other) || (one && third) || (one && fourth) || (other && third) || (other && fourth) || (third && fourth)
 
 -- A run is to go on where the last round has ended, and to go back to a rescue file; or phases are asked for in two forms, of JSON, a picture, a summary and rounds; or
--- files are to be drawn as they are and as they were.
+-- nodes of one shape are to have one box, and each node one of its own; or files are to be drawn as they are and as they were.
 abbrev pub has_clash : List Row → Bool
 has_clash rows = (is_set (codes "resume") rows && is_some (first_of (codes "dorescuefrom") rows))
     || are_two (is_set (codes "json") rows) (is_set (codes "svg") rows) (is_set (codes "summary") rows) (is_set (codes "rounds") rows)
+    || (is_set (codes "fold") rows && is_set (codes "no-fold") rows)
     || (is_set (codes "as-is") rows && is_set (codes "as-begun") rows)
 
 -- the rows that are matched have two options of which one can't be given with the other

@@ -12,6 +12,8 @@ use Rattle.dag_main_args.specs.declared.request.OrphanRule.{OrphanRule}
 use Rattle.dag_main_args.specs.declared.request.OrphanRule.TheVariants.{Kill, Wait, Leave}
 use Rattle.dag_main_args.specs.declared.request.ProgressRule.{ProgressRule}
 use Rattle.dag_main_args.specs.declared.request.ProgressRule.TheVariants.{Auto, Always, Never}
+use Rattle.dag_main_args.specs.declared.request.FoldRule.{FoldRule}
+use Rattle.dag_main_args.specs.declared.request.FoldRule.TheVariants.{AtTerminal, Folded, Unfolded}
 use Rattle.dag_main_args.specs.declared.request.Request.{Request}
 use Rattle.dag_main_args.specs.declared.request.Request.TheVariants.{Check, Run, Show, Rehearse, Salvage, Redo, Page}
 use Rattle.dag_main_args.specs.declared.request.ShownRound.{ShownRound}
@@ -67,6 +69,12 @@ abbrev pub progress_of : List Row → ProgressRule
 progress_of rows =
     if is_given_as (codes "progress") (codes "always") rows then Always
     else (if is_given_as (codes "progress") (codes "never") rows then Never else Auto)
+
+-- nodes of one shape have one box, or each node has one, where that is asked for, and else it is left to the terminal
+abbrev pub fold_of : List Row → FoldRule
+fold_of rows =
+    if is_set (codes "fold") rows then Folded
+    else (if is_set (codes "no-fold") rows then Unfolded else AtTerminal)
 
 -- whether the owner of the files beside the DAG file is trusted
 abbrev pub trusts_owner : List Row → Bool
@@ -152,7 +160,7 @@ pub record IsShownRoundOf (rows : List Row) (round : ShownRound) : Type 0 where
 abbrev pub IsViewOf : Text → List Row → View → Type 0
 IsViewOf command rows (Status json) = (command ≡ codes "status") × (json ≡ is_set (codes "json") rows)
 IsViewOf command rows (Audit json) = (command ≡ codes "audit") × (json ≡ is_set (codes "json") rows)
-IsViewOf command rows (Graph fold as_is) = (command ≡ codes "graph") × (fold ≡ is_set (codes "fold") rows) × (as_is ≡ is_set (codes "as-is") rows)
+IsViewOf command rows (Graph fold as_is) = (command ≡ codes "graph") × (fold ≡ fold_of rows) × (as_is ≡ is_set (codes "as-is") rows)
 IsViewOf command rows (Why nodes all json) = (command ≡ codes "why") × (map (λ n. n.now) nodes.items ≡ nodes_asked rows)
     × (all ≡ is_set (codes "all") rows) × (json ≡ is_set (codes "json") rows)
 IsViewOf command rows (Times svg json summary rounds) = (command ≡ codes "times") × (svg ≡ is_set (codes "svg") rows)

@@ -3,6 +3,7 @@ use Rattle.std.specs.Prelude.{◌≡◌, ◌<◌, ℕ, Bool, ◌||◌, List, Opt
 use Rattle.std.specs.Option.{option_map}
 use Rattle.throttles.specs.declared.Limits.{Limits}
 use Rattle.dag_main_args.specs.declared.request.RunOptions.{RunOptions}
+use Rattle.dag_main_args.specs.declared.request.FoldRule.{FoldRule}
 use Rattle.dag_main_args.specs.declared.request.Request.{Request}
 use Rattle.dag_main_args.specs.declared.request.Request.TheVariants.{Check, Run, Show, Rehearse, Salvage, Redo, Page}
 use Rattle.dag_main_args.specs.declared.request.View.{View}
@@ -14,7 +15,7 @@ use Rattle.dag_main_args.specs.declared.request.View.TheVariants.{Status, Audit,
 pub data Shown : Type 0 where
   the_status : (json : Bool) → Shown
   the_audit : (json : Bool) → Shown
-  the_graph : (fold as_is : Bool) → Shown
+  the_graph : (fold : FoldRule) → (as_is : Bool) → Shown
   the_reasons : (nodes : List (List ℕ)) → (all json : Bool) → Shown
   the_times : (svg json summary rounds : Bool) → Shown
   the_page : (reload : Bool) → Shown

@@ -95,7 +95,7 @@ commands is_tied orphans progress = command (codes "run") (run_rules is_tied orp
     ∷ command (codes "audit") (dag ∷ json ∷ as_it_began ∷ trust_owner ∷ [])
     ∷ command (codes "check") (dag ∷ flag (codes "all") ∷ json ∷ flag (codes "hints") ∷ flag (codes "condor") ∷ [])
     ∷ command (codes "rehearse") rehearsal_rules
-    ∷ command (codes "graph") (dag ∷ flag (codes "fold") ∷ tied_flag is_tied (codes "as-is") ∷ as_it_began ∷ trust_owner ∷ [])
+    ∷ command (codes "graph") (dag ∷ flag (codes "fold") ∷ tied_flag is_tied (codes "no-fold") ∷ tied_flag is_tied (codes "as-is") ∷ as_it_began ∷ trust_owner ∷ [])
     ∷ command (codes "explain") (optional (codes "CODE") ∷ [])
     ∷ command (codes "help") (optional (codes "COMMAND") ∷ [])
     ∷ command (codes "version") (json ∷ [])

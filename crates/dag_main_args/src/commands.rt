@@ -223,7 +223,13 @@ const ROUNDS: ArgumentRow = ArgumentRow {
 const FOLD: ArgumentRow = ArgumentRow {
     name: "fold",
     kind: Kind::Flag,
-    help: "Nodes of one submit file with the same parents and children have one box, with how many they are",
+    help: "Nodes of one submit file with the same parents and children have one box, with how many they are; the default on a terminal",
+};
+
+const NO_FOLD: ArgumentRow = ArgumentRow {
+    name: "no-fold",
+    kind: Kind::FlagWithout("fold"),
+    help: "Each node has a box of its own, also on a terminal; the default into a file or a pipe",
 };
 
 const AS_IS: ArgumentRow = ArgumentRow {
@@ -388,7 +394,7 @@ static COMMANDS: [CommandRow; 14] = [
     CommandRow {
         name: "graph",
         about: "Draws the graph of a DAG, coloured by where its nodes stand, for graphviz",
-        arguments: &[FILE, FOLD, AS_IS, AS_BEGUN, TRUST_OWNER],
+        arguments: &[FILE, FOLD, NO_FOLD, AS_IS, AS_BEGUN, TRUST_OWNER],
     },
     CommandRow {
         name: "explain",

@@ -8,6 +8,6 @@ mod pages;
 mod request;
 
 pub use request::{
-    OrphanRule, ProgressRule, Request, RunOptions, ShownRound, VERSION, View, WordsFault,
+    FoldRule, OrphanRule, ProgressRule, Request, RunOptions, ShownRound, VERSION, View, WordsFault,
     read_words,
 };

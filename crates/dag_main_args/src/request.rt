@@ -56,6 +56,17 @@ pub enum ProgressRule {
     Never,
 }
 
+/// Whether nodes of one shape have one box in a picture.
+#[derive(Clone, Copy, Debug, PartialEq, Eq)]
+pub enum FoldRule {
+    /// Where standard output is a terminal.
+    AtTerminal,
+    /// Whatever it is.
+    Folded,
+    /// Each node has a box of its own.
+    Unfolded,
+}
+
 /// How a run is to be done.
 #[derive(Debug)]
 pub struct RunOptions {
@@ -152,7 +163,7 @@ pub enum View<'a> {
     /// `graph`: a picture of the graph; whether nodes that are alike have one box, and whether its files are drawn as they are, also where
     /// they were changed since the round began.
     Graph {
-        fold: bool,
+        fold: FoldRule,
         as_is: bool,
     },
 
@@ -381,6 +392,19 @@ fn progress_of(found: &ArgMatches<'_>) -> ProgressRule
     }
 }
 
+/// Whether nodes of one shape have one box, as it is said; else it is left to the terminal.
+fn fold_of(found: &ArgMatches<'_>) -> FoldRule
+    ensures { result ≡ matched.fold_of (rows_of (found_of found.now)) }
+{
+    if is_set(found, "fold") {
+        FoldRule::Folded
+    } else if is_set(found, "no-fold") {
+        FoldRule::Unfolded
+    } else {
+        FoldRule::AtTerminal
+    }
+}
+
 /// The options of a run.
 ///
 /// # Errors
@@ -551,7 +575,7 @@ fn drawn_of_round<'a>(
     let round = round_of(found);
     let view = match command {
         "graph" => View::Graph {
-            fold: is_set(found, "fold"),
+            fold: fold_of(found),
             as_is: is_set(found, "as-is"),
         },
         "times" => View::Times {
@@ -650,7 +674,7 @@ fn are_two(one: bool, other: bool, third: bool, fourth: bool) -> bool
 }
 
 /// Whether two options are given of which one can't be given with the other: `--resume` and `--dorescuefrom`, two of `--json`, `--svg`,
-/// `--summary` and `--rounds`, or `--as-is` and `--as-begun`.
+/// `--summary` and `--rounds`, `--fold` and `--no-fold`, or `--as-is` and `--as-begun`.
 fn has_clash(found: &ArgMatches<'_>) -> bool
     ensures { result ≡ answered.has_clash (rows_of (found_of found.now)) }
 {
@@ -664,6 +688,9 @@ fn has_clash(found: &ArgMatches<'_>) -> bool
         is_set(found, "rounds"),
     );
     if are_two(json, svg, summary, rounds) {
+        return true;
+    }
+    if is_set(found, "fold") && is_set(found, "no-fold") {
         return true;
     }
     is_set(found, "as-is") && is_set(found, "as-begun")

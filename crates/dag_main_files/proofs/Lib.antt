@@ -4,3 +4,4 @@ pub mod Held
 pub mod Journals
 pub mod OpenedFiles
 pub mod Folders
+pub mod Makes

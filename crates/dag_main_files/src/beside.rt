@@ -1,11 +1,14 @@
 //! The files beside a DAG file: its journal, its rescue files and its lock.
 
-ghost use Rattle.std.specs.Prelude.{◌≡◌, ◌≤◌, IfOk, IfErr};
+ghost use Rattle.std.specs.Prelude.{◌≡◌, ◌≤◌, ◌∷◌, ◌++◌, [], ℕ, List, All, Contains, map, IfOk, IfErr, OnOk, OnErr};
 ghost use Rattle.rescue_file.specs.Numbered.{IsFileNumber, rescue_name_of};
 ghost use Rattle.splices_flat.specs.Paths.{join};
 ghost use Rattle.dag_main_check.specs.declared.fault.RunFault.TheVariants.{Memory};
 ghost use Rattle.dag_main_files.specs.Beside.{journal_name_of, lock_name_of, folder_name_of, IsFileFault, IsRefusalOf, IsRescueMoveFault, IsNameLength, HasRoomForNames, IsRoomFault};
+ghost use Rattle.dag_main_files.specs.Changes.{Makes, AreHigher, locks, unlocks, syncs_names, puts_journal_away, rescue_away, puts_rescues_away};
+ghost use Rattle.dag_main_files.specs.declared.changes.Change.TheVariants.{Renamed};
 
+use crate::changes::{Change, Changes, Noted};
 use crate::locking::{Lock, is_locked, lock_in_time, lock_opened};
 use crate::owners::is_trusted;
 use crate::rescues::numbers_above;
@@ -173,8 +176,11 @@ impl<'a> Place<'a> {
     pub fn lock<R: Files<File = File> + Clock + AllocGlobal>(
         &self,
         rt: &R,
+        changes: &mut Changes,
     ) -> Result<Lock, RunFault>
-        ensures { IfErr result (IsRefusalOf (lock_name_of self.now.top.now)) }
+        ensures refused { IfErr result (IsRefusalOf (lock_name_of self.now.top.now)) }
+        ensures changes { OnOk result (changes.new ≡ changes.old ++ locks self.now.top.now) }
+        ensures no_change { OnErr result (changes.new ≡ changes.old) }
     {
         let alloc = rt.alloc();
         let path = lock_path(alloc, self.top)?;
@@ -186,9 +192,12 @@ impl<'a> Place<'a> {
         };
         let mut lock = Lock::of(file);
         match self.lock_journal(rt, &mut lock) {
-            Ok(()) => Ok(lock),
+            Ok(()) => {
+                changes.note(&path, Change::Locked);
+                Ok(lock)
+            }
             Err(fault) => {
-                self.unlock(rt, lock);
+                lock.remove_file(rt, place.as_str());
                 Err(fault)
             }
         }
@@ -233,13 +242,16 @@ impl<'a> Place<'a> {
 
     /// Gives a lock back: the file that is named for it is removed while it is locked, where the name is
     /// still that of this file.
-    pub fn unlock<R: Files + AllocGlobal>(&self, rt: &R, lock: Lock) {
+    pub fn unlock<R: Files + AllocGlobal>(&self, rt: &R, lock: Lock, changes: &mut Changes)
+        ensures { changes.new ≡ changes.old ++ unlocks }
+    {
         let alloc = rt.alloc();
         if let Ok(path) = lock_path(alloc, self.top) {
             if let Ok(place) = self.at(alloc, path.as_str()) {
                 lock.remove_file(rt, place.as_str());
             }
         }
+        changes.happened(Change::Unlocked);
     }
 
     /// Sees to it that the file of this path, which is beside the DAG file, was put there by nobody
@@ -319,15 +331,26 @@ impl<'a> Place<'a> {
     }
 
     /// Gives the file of a path another one, in place of the file that has it.
-    fn rename<R: Files + AllocGlobal>(&self, rt: &R, path: &str, new: &str) -> Result<(), RunFault>
-        ensures { IfErr result (IsRefusalOf path.now) }
+    fn rename<R: Files + AllocGlobal>(
+        &self,
+        rt: &R,
+        path: &Text,
+        new: &Text,
+        changes: &mut Changes,
+    ) -> Result<(), RunFault>
+        ensures refused { IfErr result (IsRefusalOf path.now) }
+        ensures changes { OnOk result (changes.new ≡ changes.old ++ (path.now, Renamed new.now) ∷ []) }
+        ensures no_change { OnErr result (changes.new ≡ changes.old) }
     {
         let alloc = rt.alloc();
-        let from = self.at(alloc, path)?;
-        let to = self.at(alloc, new)?;
+        let from = self.at(alloc, path.as_str())?;
+        let to = self.at(alloc, new.as_str())?;
         match fs::rename(rt, from.as_str(), to.as_str()) {
-            Ok(()) => Ok(()),
-            Err(error) => Err(refused(alloc, path, &error)),
+            Ok(()) => {
+                changes.note(path, Change::Renamed(Noted::name(new)));
+                Ok(())
+            }
+            Err(error) => Err(refused(alloc, path.as_str(), &error)),
         }
     }
 
@@ -337,13 +360,20 @@ impl<'a> Place<'a> {
         &self,
         rt: &R,
         path: &str,
+        changes: &mut Changes,
     ) -> Result<(), RunFault>
-        ensures { IfErr result (IsRefusalOf path.now) }
+        ensures refused { IfErr result (IsRefusalOf path.now) }
+        ensures changes { OnOk result (changes.new ≡ changes.old ++ syncs_names self.now.top.now) }
+        ensures no_change { OnErr result (changes.new ≡ changes.old) }
     {
         let alloc = rt.alloc();
-        let folder = self.at(alloc, folder_of(self.top))?;
-        match sync_folder(rt, folder.as_str()) {
-            Ok(()) => Ok(()),
+        let folder = Text::new(alloc, folder_of(self.top))?;
+        let place = self.at(alloc, folder.as_str())?;
+        match sync_folder(rt, place.as_str()) {
+            Ok(()) => {
+                changes.note(&folder, Change::Synced);
+                Ok(())
+            }
             Err(error) => Err(refused(alloc, path, &error)),
         }
     }
@@ -356,26 +386,55 @@ impl<'a> Place<'a> {
     pub fn put_journal_away<R: Files<File = File> + AllocGlobal>(
         &self,
         rt: &R,
+        changes: &mut Changes,
     ) -> Result<(), RunFault>
-        ensures { IfErr result (IsRefusalOf (journal_name_of self.now.top.now)) }
+        ensures refused { IfErr result (IsRefusalOf (journal_name_of self.now.top.now)) }
+        ensures changes { Makes result (puts_journal_away self.now.top.now) changes.old changes.new }
     {
         let alloc = rt.alloc();
         let path = journal_path(alloc, self.top)?;
         let old = Text::joined(alloc, self.top, ".journal.old")?;
-        self.rename(rt, path.as_str(), old.as_str())?;
-        self.sync_names(rt, path.as_str())
+        self.rename(rt, &path, &old, changes)?;
+        self.sync_names(rt, path.as_str(), changes)
     }
 
     /// Adds `.old` to the name of the rescue file of this number, from 1 to 999, in place of the file
     /// that has it.
-    fn put_rescue_away<R: Files + AllocGlobal>(&self, rt: &R, number: u16) -> Result<(), RunFault>
+    fn put_rescue_away<R: Files + AllocGlobal>(
+        &self,
+        rt: &R,
+        number: u16,
+        changes: &mut Changes,
+    ) -> Result<(), RunFault>
         requires { IsFileNumber number }
-        ensures { IfErr result (IsRefusalOf (rescue_name_of self.now.top.now number)) }
+        ensures refused { IfErr result (IsRefusalOf (rescue_name_of self.now.top.now number)) }
+        ensures changes { OnOk result (changes.new ≡ changes.old ++ rescue_away self.now.top.now number ∷ []) }
+        ensures no_change { OnErr result (changes.new ≡ changes.old) }
     {
         let alloc = rt.alloc();
         let path = rescue_path(alloc, self.top, number)?;
         let old = Text::joined(alloc, path.as_str(), ".old")?;
-        self.rename(rt, path.as_str(), old.as_str())
+        self.rename(rt, &path, &old, changes)
+    }
+
+    /// Adds `.old` to the names of the rescue files of these numbers, in their order, each in place of the file that has that name.
+    ///
+    /// # Errors
+    /// `FileRefused` with the path of the first file that the system refuses to rename: the later ones keep their names. `Memory`.
+    fn put_each_away<R: Files + AllocGlobal>(
+        &self,
+        rt: &R,
+        numbers: &[u16],
+        changes: &mut Changes,
+    ) -> Result<(), RunFault>
+        requires { All IsFileNumber numbers.now }
+        ensures refused { IfErr result (λ fault. (number : ℕ) × Contains numbers.now number × IsRefusalOf (rescue_name_of self.now.top.now number) fault) }
+        ensures changes { Makes result (map (rescue_away self.now.top.now) numbers.now) changes.old changes.new }
+    {
+        for number in numbers {
+            self.put_rescue_away(rt, *number, changes)?;
+        }
+        Ok(())
     }
 
     /// Adds `.old` to the names of the rescue files with higher numbers than this one, the highest
@@ -388,15 +447,15 @@ impl<'a> Place<'a> {
         &self,
         rt: &R,
         from: u16,
+        changes: &mut Changes,
     ) -> Result<(), RunFault>
-        ensures { IfErr result (IsRescueMoveFault self.now.top.now from) }
+        ensures refused { IfErr result (IsRescueMoveFault self.now.top.now from) }
+        ensures changes { (numbers : List ℕ) × AreHigher from numbers × Makes result (puts_rescues_away self.now.top.now numbers) changes.old changes.new }
     {
         let names = self.names(rt)?;
         let numbers = numbers_above(rt.alloc(), names.as_slice(), base_of(self.top), from)?;
-        for number in numbers.iter() {
-            self.put_rescue_away(rt, *number)?;
-        }
-        self.sync_names(rt, folder_of(self.top))
+        self.put_each_away(rt, &numbers, changes)?;
+        self.sync_names(rt, folder_of(self.top), changes)
     }
 }
 

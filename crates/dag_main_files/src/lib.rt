@@ -3,6 +3,7 @@
 #![tactic(auto)]
 
 mod beside;
+mod changes;
 mod folder;
 mod headers;
 mod inputs;
@@ -14,6 +15,7 @@ mod rescues;
 mod rounds;
 
 pub use beside::{LAST_NUMBER, Place, journal_path, refused, rescue_path};
+pub use changes::{Change, Changes, Noted};
 pub use folder::{Folder, SystemFolder};
 pub use headers::{peek_in, read_fault};
 pub use inputs::{MOST_BYTES, read_input};

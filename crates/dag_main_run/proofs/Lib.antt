@@ -1,4 +1,5 @@
 mod RunPlans
+pub mod RunChanges
 pub mod Sites
 mod OwnFiles
 mod Halts

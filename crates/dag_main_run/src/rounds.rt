@@ -1,8 +1,10 @@
 //! By what the processes of a round are known, and what is done with those that an earlier manager left.
 
-ghost use Rattle.std.specs.Prelude.{◌≡◌, ℕ, List, IfOk, IfErr};
+ghost use Rattle.std.specs.Prelude.{◌≡◌, ◌++◌, ℕ, List, IfOk, IfErr};
 ghost use Rattle.dag_main_files.specs.Beside.{IsRefusalOf};
+ghost use Rattle.dag_main_files.specs.Changes.{FileChange, AreSome};
 ghost use Rattle.dag_main_run.specs.InTheWay.{IsOrphanFault};
+ghost use Rattle.dag_main_run.specs.RunChanges.{settles};
 
 use crate::beginning::{
     children_name, children_path, forget_processes, forget_round, log_of, round_name, round_path,
@@ -10,7 +12,7 @@ use crate::beginning::{
 use child_watcher::RoundIdentity;
 use dag_main_args::{OrphanRule, RunOptions};
 use dag_main_check::RunFault;
-use dag_main_files::{Journaled, Place, Round, journal_path};
+use dag_main_files::{Change, Changes, Journaled, Place, Round, journal_path};
 use dag_reader::Text;
 use event_journal_log::{JournalFault, read_journal};
 use run_log::{
@@ -191,7 +193,10 @@ fn settle<R: Processes + Files<File = File> + Clock + Screen + AllocGlobal + Clo
     options: &RunOptions,
     rule: OrphanRule,
     orphans: &mut Orphans,
-) -> Result<bool, OrphanFault> {
+    changes: &mut Changes,
+) -> Result<bool, OrphanFault>
+    ensures { (settled : List FileChange) × AreSome (settles place.now.top.now) settled × (changes.new ≡ changes.old ++ settled) }
+{
     if orphans.is_empty() {
         return Ok(false);
     }
@@ -200,6 +205,7 @@ fn settle<R: Processes + Files<File = File> + Clock + Screen + AllocGlobal + Clo
     }
     show(rt, orphans.count(), options, rule);
     let mut log = log_of(rt, place, options)?;
+    changes.note(&children_name(rt.alloc(), place)?, Change::Settled);
     orphans.settle(rt, rule, &mut log)
 }
 
@@ -238,13 +244,16 @@ pub(crate) fn settled<
     options: &RunOptions,
     rule: OrphanRule,
     orphans: Orphans,
+    changes: &mut Changes,
 ) -> Result<Kept, RunFault>
-    ensures { IfErr result (IsOrphanFault place.now.top.now) }
+    ensures refused { IfErr result (IsOrphanFault place.now.top.now) }
+    ensures changes { (settled : List FileChange) × AreSome (settles place.now.top.now) settled × (changes.new ≡ changes.old ++ settled) }
 {
     let mut orphans = orphans;
-    let kept = settle(rt, place, plan, round, options, rule, &mut orphans).and_then(
-        |some_left| kept_of(rt, orphans, some_left),
+    let is_settled = settle(
+        rt, place, plan, round, options, rule, &mut orphans, changes,
     );
+    let kept = is_settled.and_then(|some_left| kept_of(rt, orphans, some_left));
     match kept {
         Ok(kept) => Ok(kept),
         Err(fault) => Err(refused_for(rt.alloc(), place, fault)),

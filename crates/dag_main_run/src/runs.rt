@@ -1,12 +1,14 @@
 //! A run with children of the operating system.
 
-ghost use Rattle.std.specs.Prelude.{◌≡◌, ◌≤◌, true, IfOk, IfErr, option_map, string_bytes};
+ghost use Rattle.std.specs.Prelude.{◌≡◌, ◌≤◌, ◌++◌, List, true, IfOk, IfErr, option_map, string_bytes};
 ghost use Rattle.splices_flat.specs.FileSet.{bytes_of, entries_of};
 ghost use Rattle.event_journal_log.specs.Image.{IsRescueNumber};
 ghost use Rattle.dag_main_check.specs.Planned.{IsPlanBy};
 ghost use Rattle.dag_main_files.specs.Beside.{IsRoundBy, IsRescueOf, HasJournal};
 ghost use Rattle.dag_main_files.specs.Folder.{IsRoundFrom, journal_in, rescue_in};
 ghost use Rattle.dag_main_check.specs.Warnings.{warning_lines};
+ghost use Rattle.dag_main_files.specs.Changes.{FileChange};
+ghost use Rattle.dag_main_run.specs.RunChanges.{leads, AreLooks, ChangesAsRound, found_where, IsTried, ChangesAsRun};
 ghost use Rattle.dag_main_run.specs.Sites.{start_by, journal_found, rounds_at, manager_refusal, IsReturned, IsRoundLedAt, IsRoundStoppedAt};
 ghost use Rattle.dag_main_run.specs.Runs.{IsPlannedRun, any_round, held_round, IsRunWhere, IsRunOf, IsRunFrom, IsFindingFault, IsFindingFaultHeld, IsLockedFault, IsFirstRunFault, IsRoundPlanFault, IsStopFault, IsHeldFault, IsRunFaultWhere, IsRunFault, IsRunFaultFrom};
 
@@ -22,8 +24,8 @@ use dag_graph::Graph;
 use dag_main_args::RunOptions;
 use dag_main_check::{Answer, RunFault, graph_of, plan_by, warning_text};
 use dag_main_files::{
-    Folder, Journaled, Lock, Place, Reading, Round, files_of, named, read_missing, rescue_of,
-    rescue_path, round_of,
+    Changes, Folder, Journaled, Lock, Place, Reading, Round, files_of, named, read_missing,
+    rescue_of, rescue_path, round_of,
 };
 use job_starter_drive::DriveFault;
 use job_starter_local::Launcher;
@@ -129,6 +131,7 @@ fn led_by<H: Site, W: ChildWatcher + Drop>(
     identity: RoundIdentity<'_>,
     disks: (H::Journal, H::Rescue),
     watcher: W,
+    changes: &mut Changes,
 ) -> Result<Report, Stop>
     // The disks are those of the site: that of the journal reads as the folder holds it.
     requires journal { (H.own site.now).is_journal top.now disks.0 }
@@ -141,11 +144,12 @@ fn led_by<H: Site, W: ChildWatcher + Drop>(
         top.now limits plan.now round.now (string_bytes report.text) report.status) }
     ensures refused { IfErr result (λ stop. (fault : RunFault) → IsReturned top.now stop.cause fault →
         IsRoundStoppedAt H.Journal.Disk H.Rescue.Disk (H.own site.now) (H.honest site.now) (H.holds site.now) top.now limits plan.now round.now fault) }
+    ensures changes { changes.new ≡ changes.old ++ leads }
 {
     let (journal, rescue) = disks;
     let start = start_of(round);
     match site.lead(
-        plan, start, limits, launcher, identity, journal, rescue, watcher,
+        plan, start, limits, launcher, identity, journal, rescue, watcher, changes,
     ) {
         Ok((_journal, led)) => Ok(Report {
             text: led.text,
@@ -203,6 +207,7 @@ fn led_watched<
     known: &Known,
     disks: (H::Journal, H::Rescue),
     watcher: RoundWatcher<'_, R>,
+    changes: &mut Changes,
 ) -> Result<Report, RunFault>
     requires journal { (H.own site.now).is_journal place.now.top.now disks.0 }
     requires rescue { (H.own site.now).is_rescue place.now.top.now round.now.next disks.1 }
@@ -214,6 +219,7 @@ fn led_watched<
         place.now.top.now limits plan.now round.now (string_bytes report.text) report.status) }
     ensures refused { IfErr result (IsRoundStoppedAt H.Journal.Disk H.Rescue.Disk (H.own site.now) (H.honest site.now) (H.holds site.now)
         place.now.top.now limits plan.now round.now) }
+    ensures changes { changes.new ≡ changes.old ++ leads }
 {
     let mut watcher = watcher;
     let led = led_by(
@@ -226,6 +232,7 @@ fn led_watched<
         known.identity(),
         disks,
         &mut watcher,
+        changes,
     );
     watcher.progress.ends();
     watcher.status.ends();
@@ -257,6 +264,7 @@ fn run_on<R: Processes + Files<File = File> + Clock + Screen + AllocGlobal + Cop
     inputs: Inputs<'_>,
     disks: (H::Journal, H::Rescue),
     lock: &mut Lock,
+    changes: &mut Changes,
 ) -> Result<Report, RunFault>
     requires journal { (H.own site.now).is_journal place.now.top.now disks.0 }
     requires rescue { (H.own site.now).is_rescue place.now.top.now round.now.next disks.1 }
@@ -266,6 +274,8 @@ fn run_on<R: Processes + Files<File = File> + Clock + Screen + AllocGlobal + Cop
         place.now.top.now options.now.limits plan.now round.now (string_bytes report.text) report.status) }
     ensures refused { IfErr result (IsStopFault place.now.top.now options.now round.now (H.own site.now).is_deaf (IsRoundStoppedAt H.Journal.Disk H.Rescue.Disk (H.own site.now) (H.honest site.now)
         (H.holds site.now) place.now.top.now options.now.limits plan.now round.now)) }
+    ensures changes { ChangesAsRound result place.now.top.now plan.now.digest (entries_of inputs.files.now) (option_map (λ b. b.now) inputs.rescue.entry)
+        round.now changes.old changes.new }
 {
     if site.is_deaf() {
         return Err(RunFault::WaitFault);
@@ -273,11 +283,11 @@ fn run_on<R: Processes + Files<File = File> + Clock + Screen + AllocGlobal + Cop
     let orphans = orphans_found(&rt, place)?;
     let status = status_watcher(rt, place, plan, options)?;
     let (journal, rescue) = disks;
-    let journal = site.readied(place.top, journal, round, lock)?;
+    let journal = site.readied(place.top, journal, round, lock, changes)?;
     let mut halt = HaltWatcher::new(rt, place, plan, round, options)?;
     let rule = halt.rule_for(options.orphans);
-    let kept = settled(&rt, place, plan, round, options, rule, orphans)?;
-    let left_out = keep_inputs(rt, place, plan, round, inputs)?;
+    let kept = settled(&rt, place, plan, round, options, rule, orphans, changes)?;
+    let left_out = keep_inputs(rt, place, plan, round, inputs, changes)?;
     let mut log = watcher_of(rt, place, plan, round, options)?;
     let is_launched = !options.launcher.as_slice().is_empty();
     let known = identified(rt, place, round, kept, is_launched, &mut log)?;
@@ -300,6 +310,7 @@ fn run_on<R: Processes + Files<File = File> + Clock + Screen + AllocGlobal + Cop
         &known,
         (journal, rescue),
         watcher,
+        changes,
     )
 }
 
@@ -317,6 +328,7 @@ fn run_planned<
     launcher: &Launcher,
     inputs: Inputs<'_>,
     lock: &mut Lock,
+    changes: &mut Changes,
 ) -> Result<Report, RunFault>
     requires next { IsRescueNumber round.now.next }
     requires by_journal { H.honest site.now → HasJournal (journal_in (H.holds site.now) place.now.top.now) round.now }
@@ -324,6 +336,8 @@ fn run_planned<
         place.now.top.now options.now.limits plan.now round.now (string_bytes report.text) report.status) }
     ensures refused { IfErr result (IsStopFault place.now.top.now options.now round.now (H.own site.now).is_deaf (IsRoundStoppedAt H.Journal.Disk H.Rescue.Disk (H.own site.now) (H.honest site.now)
         (H.holds site.now) place.now.top.now options.now.limits plan.now round.now)) }
+    ensures changes { ChangesAsRound result place.now.top.now plan.now.digest (entries_of inputs.files.now) (option_map (λ b. b.now) inputs.rescue.entry)
+        round.now changes.old changes.new }
 {
     let rescue = site.rescue_disk(place.top, round.next)?;
     let journal = site.journal_disk(place.top)?;
@@ -338,6 +352,7 @@ fn run_planned<
         inputs,
         (journal, rescue),
         lock,
+        changes,
     )
 }
 
@@ -386,6 +401,7 @@ fn first_look<R: Files<File = File> + Clock + AllocGlobal + Copy + Drop, F: Fold
     folder: &F,
     place: &Place<'_>,
     options: &RunOptions,
+    changes: &mut Changes,
 ) -> Result<(Round, Option<Vec<u8>>), RunFault>
     ensures held { F.honest folder.now → IfOk result (λ found. IsRoundFrom (F.holds folder.now) (F.has folder.now) place.now.top.now
         options.now.autorescue options.now.dorescuefrom options.now.always_post found.0
@@ -396,10 +412,11 @@ fn first_look<R: Files<File = File> + Clock + AllocGlobal + Copy + Drop, F: Fold
     ensures refused { IfErr result (IsFirstRunFault place.now.top.now (IsFindingFault place.now.top.now options.now)) }
     ensures refused_held { F.honest folder.now → IfErr result (IsFirstRunFault place.now.top.now
         (IsFindingFaultHeld (F.holds folder.now) (F.has folder.now) place.now.top.now options.now)) }
+    ensures changes { (looks : List FileChange) × AreLooks place.now.top.now looks × (changes.new ≡ changes.old ++ looks) }
 {
     has_own_files(&rt, place, options.trust_owner)?;
     match round_with_rescue(rt, folder, place, options) {
-        Err(RunFault::InManager(_journal)) => look_locked(rt, folder, place, options),
+        Err(RunFault::InManager(_journal)) => look_locked(rt, folder, place, options, changes),
         Ok(found) => Ok(found),
         Err(fault) => Err(fault),
     }
@@ -415,6 +432,7 @@ fn look_locked<R: Files<File = File> + Clock + AllocGlobal + Copy + Drop, F: Fol
     folder: &F,
     place: &Place<'_>,
     options: &RunOptions,
+    changes: &mut Changes,
 ) -> Result<(Round, Option<Vec<u8>>), RunFault>
     ensures held { F.honest folder.now → IfOk result (λ found. IsRoundFrom (F.holds folder.now) (F.has folder.now) place.now.top.now
         options.now.autorescue options.now.dorescuefrom options.now.always_post found.0
@@ -425,11 +443,12 @@ fn look_locked<R: Files<File = File> + Clock + AllocGlobal + Copy + Drop, F: Fol
     ensures refused { IfErr result (IsLockedFault place.now.top.now (IsFindingFault place.now.top.now options.now)) }
     ensures refused_held { F.honest folder.now → IfErr result (IsLockedFault place.now.top.now
         (IsFindingFaultHeld (F.holds folder.now) (F.has folder.now) place.now.top.now options.now)) }
+    ensures changes { (looks : List FileChange) × AreLooks place.now.top.now looks × (changes.new ≡ changes.old ++ looks) }
 {
     place.has_room_for_names(rt.alloc())?;
-    let lock = place.lock(&rt)?;
+    let lock = place.lock(&rt, changes)?;
     let found = round_with_rescue(rt, folder, place, options);
-    place.unlock(&rt, lock);
+    place.unlock(&rt, lock, changes);
     found
 }
 
@@ -457,6 +476,7 @@ fn run_locked<
     options: &RunOptions,
     launcher: &Launcher,
     lock: &mut Lock,
+    changes: &mut Changes,
 ) -> Result<Answer, RunFault>
     requires next { IsRescueNumber found.now.0.next }
     ensures led { IfOk result (λ answer. IsRoundLedAt H.Journal.Disk H.Rescue.Disk (H.own site.now) (H.honest site.now) (H.holds site.now)
@@ -469,6 +489,7 @@ fn run_locked<
         (IsFindingFaultHeld (H.holds site.now) (H.has site.now) place.now.top.now options.now) (H.own site.now).is_deaf
         (IsRoundStoppedAt H.Journal.Disk H.Rescue.Disk (H.own site.now)
         (H.honest site.now) (H.holds site.now) place.now.top.now options.now.limits plan.now found.now.0)) }
+    ensures changes { ChangesAsRound result place.now.top.now plan.now.digest (entries_of files.now) (option_map (λ b. b.items) found.now.1) found.now.0 changes.old changes.new }
 {
     let alloc = rt.alloc();
     let (round, rescue) = found;
@@ -482,7 +503,7 @@ fn run_locked<
         rescue: rescue.as_deref(),
     };
     let report = run_planned(
-        rt, site, place, plan, round, options, launcher, inputs, lock,
+        rt, site, place, plan, round, options, launcher, inputs, lock, changes,
     )?;
     Ok(Answer {
         text: report.text,
@@ -507,6 +528,7 @@ fn run_files<
     place: &Place<'_>,
     files: &FileSet,
     options: &RunOptions,
+    changes: &mut Changes,
 ) -> Result<Answer, RunFault>
     ensures run { IfOk result (λ answer. IsRunWhere bytes_of (λ set. set ≡ files.now)
         (any_round place.now.top.now options.now)
@@ -524,18 +546,19 @@ fn run_files<
         (held_round (H.holds site.now) (H.has site.now) place.now.top.now options.now)
         (rounds_at H.Journal.Disk H.Rescue.Disk (H.own site.now) (H.honest site.now) (H.holds site.now))
         place.now.top.now options.now) }
+    ensures changes { IsTried result (found_where (H.honest site.now) (H.holds site.now) (H.has site.now) place.now.top.now options.now) place.now.top.now options.now files.now changes.old changes.new }
 {
     let alloc = rt.alloc();
     let graph = graph_of(alloc, files, place.top)?;
-    let found = first_look(rt, site, place, options)?;
+    let found = first_look(rt, site, place, options, changes)?;
     let plan = plan_of_round(alloc, place, files, graph, &found.0, found.1.as_deref())?;
     let launcher = launcher_of(&rt, place.folder, &plan, options)?;
     place.has_room_for_names(alloc)?;
-    let mut lock = place.lock(&rt)?;
+    let mut lock = place.lock(&rt, changes)?;
     let answer = run_locked(
-        rt, site, place, files, &plan, &found, options, &launcher, &mut lock,
+        rt, site, place, files, &plan, &found, options, &launcher, &mut lock, changes,
     );
-    place.unlock(&rt, lock);
+    place.unlock(&rt, lock, changes);
     answer
 }
 
@@ -572,7 +595,13 @@ fn run_files<
 pub fn run_dag<
     R: Processes + Files<File = File> + Clock + Screen + AllocGlobal + Copy + Drop,
     H: Site,
->(rt: R, site: &H, place: &Place<'_>, options: &RunOptions) -> Result<Answer, RunFault>
+>(
+    rt: R,
+    site: &H,
+    place: &Place<'_>,
+    options: &RunOptions,
+    changes: &mut Changes,
+) -> Result<Answer, RunFault>
     // The report is that of a round of the plan of some files, led to its end at the site under the limits of
     // the options, with the rescue file that they ask for.
     ensures run { IfOk result (λ answer. IsRunOf
@@ -590,11 +619,13 @@ pub fn run_dag<
     ensures refused_held { ¬ (H.streams site.now) → H.honest site.now → IfErr result (IsRunFaultFrom (H.holds site.now) (H.has site.now)
         (rounds_at H.Journal.Disk H.Rescue.Disk (H.own site.now) (H.honest site.now) (H.holds site.now))
         place.now.top.now options.now) }
+    // What it changes beside the DAG file, under the lock alone, and in which order.
+    ensures changes { ChangesAsRun result (found_where (H.honest site.now) (H.holds site.now) (H.has site.now) place.now.top.now options.now) place.now.top.now options.now changes.old changes.new }
 {
     let alloc = rt.alloc();
     let mut files = files_of(alloc, site, place.top, Reading::SubmitFilesToo)?;
     for _ in 0..MOST_COME {
-        match run_files(rt, site, place, &files, options) {
+        match run_files(rt, site, place, &files, options, changes) {
             Ok(answer) => return Ok(answer),
             Err(fault) => read_missing(alloc, site, &mut files, fault)?,
         }

@@ -1,12 +1,14 @@
 //! Where a run of a DAG file is led: a folder, the disks of the journal and of the rescue file in it, and children.
 
-ghost use Rattle.std.specs.Prelude.{◌≡◌, ℕ, List, [], IfOk, IfErr, true, string_bytes};
+ghost use Rattle.std.specs.Prelude.{◌≡◌, ◌++◌, ℕ, List, [], IfOk, IfErr, true, string_bytes};
 ghost use Rattle.rescue_file.specs.Numbered.{IsFileNumber};
 ghost use Rattle.job_starter_drive.specs.declared.Call.{Call};
 ghost use Rattle.run_round.specs.Rounds.{FitsIn, IsRoundRun};
 ghost use Rattle.run_round.specs.Causes.{IsRoundRefusal, MayStop};
 ghost use Rattle.dag_main_check.specs.declared.fault.RunFault.TheVariants.{Memory};
+ghost use Rattle.dag_main_files.specs.Changes.{Makes, AreHigher};
 ghost use Rattle.dag_main_run.specs.InTheWay.{IsReadyFault};
+ghost use Rattle.dag_main_run.specs.RunChanges.{clears_rescues, clears_journal, clears, readies, leads};
 ghost use Rattle.dag_main_run.specs.Sites.{Own, own_from, journal_found};
 ghost use Rattle.job_starter_drive.specs.Calls.{any_ending, running};
 
@@ -14,7 +16,7 @@ use crate::beginning::{ignores_endings, make_journal};
 use child_watcher::{ChildWatcher, RoundIdentity};
 use dag_main_check::RunFault;
 use dag_main_files::{
-    Folder, Journaled, Lock, Place, Round, SystemFolder, journal_disk, rescue_disk,
+    Change, Changes, Folder, Journaled, Lock, Place, Round, SystemFolder, journal_disk, rescue_disk,
 };
 use event_journal::FileDisk;
 use event_journal_log::Disk;
@@ -80,6 +82,7 @@ pub trait Site: Folder {
         journal: Self::Journal,
         round: &Round,
         lock: &mut Lock,
+        changes: &mut Changes,
     ) -> Result<Self::Journal, RunFault>
         requires { (own self.now).is_journal top.now journal }
         ensures journal { IfOk result ((own self.now).is_journal top.now) }
@@ -88,7 +91,9 @@ pub trait Site: Folder {
             Self.Journal.seen disk ≡ journal_found (Self.holds self.now) top.now round.now) }
         ensures honest { Self.honest self.now → IfOk result (λ disk. Self.Journal.honest disk) }
         ensures back { IfOk result (λ disk. Self.Journal.honest disk → Self.honest self.now) }
-        ensures refused { IfErr result (IsReadyFault top.now round.now) };
+        ensures refused { IfErr result (IsReadyFault top.now round.now) }
+        // What is put away, and in which order; only that.
+        ensures changes { (numbers : List ℕ) × AreHigher round.now.used numbers × Makes result (readies top.now round.now numbers) changes.old changes.new };
 
     /// Leads a round to its end on these disks, with children of this site, which inherit the identity of the round and of which the
     /// watcher is informed. None is left as it returns.
@@ -105,6 +110,7 @@ pub trait Site: Folder {
         journal: Self::Journal,
         rescue: Self::Rescue,
         watcher: W,
+        changes: &mut Changes,
     ) -> Result<
         (Self::Journal, RunToEnd<Self::Rescue>),
         (Self::Journal, (Option<Self::Rescue>, DriveFault)),
@@ -116,7 +122,8 @@ pub trait Site: Folder {
         ensures refused { IfErr result (λ e. (calls : List Call) × (before : ℕ) × (now : ℕ) × (own self.now).answered calls before now × (running calls ≡ [])
             × IsRoundRefusal Self.Journal.Disk Self.Rescue.Disk before now plan.now 16777216 start limits any_ending [] calls
             journal e.0 rescue e.1.0 e.1.1) }
-        ensures stops { IfErr result (λ e. MayStop e.1.1) };
+        ensures stops { IfErr result (λ e. MayStop e.1.1) }
+        ensures changes { changes.new ≡ changes.old ++ leads };
 
     /// What was refused of a call of these disks, and why; none where nothing was.
     fn reason(&self, journal: &Self::Journal, rescue: &Option<Self::Rescue>) -> Option<String>;
@@ -141,22 +148,52 @@ fn reason_of<R: Files<File = File> + AllocGlobal + Drop>(
     }
 }
 
+/// Puts away the rescue files of higher numbers than that to which a round goes back, if it goes back to one.
+fn clear_rescues<R: Files<File = File> + AllocGlobal + Clone + Drop>(
+    rt: &R,
+    place: &Place<'_>,
+    round: &Round,
+    changes: &mut Changes,
+) -> Result<(), RunFault>
+    ensures refused { IfErr result (IsReadyFault place.now.top.now round.now) }
+    ensures changes { (numbers : List ℕ) × AreHigher round.now.used numbers
+        × Makes result (clears_rescues round.now.goes_back place.now.top.now numbers) changes.old changes.new }
+{
+    if !round.goes_back {
+        return Ok(());
+    }
+    place.put_rescues_away(rt, round.used, changes)
+}
+
+/// Puts away the journal of the round before, if that has ended.
+fn clear_journal<R: Files<File = File> + AllocGlobal>(
+    rt: &R,
+    place: &Place<'_>,
+    round: &Round,
+    changes: &mut Changes,
+) -> Result<(), RunFault>
+    ensures refused { IfErr result (IsReadyFault place.now.top.now round.now) }
+    ensures changes { Makes result (clears_journal round.now.journal place.now.top.now) changes.old changes.new }
+{
+    match round.journal {
+        Journaled::Nothing | Journaled::Unfinished => Ok(()),
+        Journaled::Finished => place.put_journal_away(rt, changes),
+    }
+}
+
 /// Puts away what a new round is not to find: the rescue files of higher numbers than that to which it
 /// goes back, and the journal of the round before.
 fn put_away<R: Files<File = File> + AllocGlobal + Clone + Drop>(
     rt: &R,
     place: &Place<'_>,
     round: &Round,
+    changes: &mut Changes,
 ) -> Result<(), RunFault>
-    ensures { IfErr result (IsReadyFault place.now.top.now round.now) }
+    ensures refused { IfErr result (IsReadyFault place.now.top.now round.now) }
+    ensures changes { (numbers : List ℕ) × AreHigher round.now.used numbers × Makes result (clears place.now.top.now round.now numbers) changes.old changes.new }
 {
-    if round.goes_back {
-        place.put_rescues_away(rt, round.used)?;
-    }
-    if round.journal == Journaled::Finished {
-        place.put_journal_away(rt)?;
-    }
-    Ok(())
+    clear_rescues(rt, place, round, changes)?;
+    clear_journal(rt, place, round, changes)
 }
 
 /// The system's folder with its files as disks, and with children of this process. That it is honest is a premise, as it
@@ -199,13 +236,14 @@ impl<'a, R: Processes + Files<File = File> + Clock + Input + AllocGlobal + Copy 
         journal: FileDisk<R>,
         round: &Round,
         lock: &mut Lock,
+        changes: &mut Changes,
     ) -> Result<FileDisk<R>, RunFault> {
         let place = Place {
             folder: self.seat.as_str(),
             top,
         };
-        put_away(self.rt, &place, round)?;
-        make_journal(self.rt, &place, round, lock)?;
+        put_away(self.rt, &place, round, changes)?;
+        make_journal(self.rt, &place, round, lock, changes)?;
         Ok(journal)
     }
 
@@ -219,10 +257,12 @@ impl<'a, R: Processes + Files<File = File> + Clock + Input + AllocGlobal + Copy 
         journal: FileDisk<R>,
         rescue: FileDisk<R>,
         watcher: W,
+        changes: &mut Changes,
     ) -> Result<
         (FileDisk<R>, RunToEnd<FileDisk<R>>),
         (FileDisk<R>, (Option<FileDisk<R>>, DriveFault)),
     > {
+        changes.happened(Change::Led);
         let alloc = self.rt.alloc();
         let seat = self.seat.as_str();
         let Ok(system) = LocalSystem::new(alloc, *self.rt, seat, launcher, plan, identity, watcher)

@@ -1,3 +1,4 @@
+mod Changes
 mod OfRound
 mod Requests
 mod Salvages

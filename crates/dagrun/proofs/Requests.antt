@@ -1,5 +1,5 @@
 -- What comes of a request.
-use Rattle.std.proofs.Common.{◌≡◌, ◌⊎◌, inl, inr, ◌≤◌, ◌<◌, ℕ, Bor, List, None, true, false, Result, Ok, Err, codes, length, map, String, Global, refl, subst}
+use Rattle.std.proofs.Common.{◌≡◌, ◌⊎◌, inl, inr, ◌≤◌, ◌<◌, ℕ, Bool, Bor, List, None, true, false, Result, Ok, Err, codes, length, map, String, Global, refl, subst}
 use Rattle.std.specs.Prelude.{IfSome}
 use Rattle.std.proofs.lemmas.List.{length-map}
 use Rattle.dag_main_args.specs.declared.request.Request.{Request}
@@ -35,10 +35,10 @@ no-request words text fault is (inl same) = absurd cc
 no-request words text fault is (inr refused) = refused
 
 -- where memory is refused, the status is 125
-pub exits-without-memory : (Replies : Asked → Result Answer RunFault → Type 0) (words : List (List ℕ)) (status : ℕ) → IsExitStatusOf (Err NoMemory) status
-    → IsExit Replies words status
-exits-without-memory Replies words status (printed answer same) = absurd cc
-exits-without-memory Replies words status not_printed = of_no_memory
+pub exits-without-memory : (to_terminal : Bool) (Replies : Asked → Result Answer RunFault → Type 0) (words : List (List ℕ)) (status : ℕ) → IsExitStatusOf (Err NoMemory) status
+    → IsExit to_terminal Replies words status
+exits-without-memory to_terminal Replies words status (printed answer same) = absurd cc
+exits-without-memory to_terminal Replies words status not_printed = of_no_memory
 
 -- nothing is displayed of no hints
 pub no-hints : (asked : Asked) (reply : Result Answer RunFault) (streams : Streams) → AreHints asked reply streams streams

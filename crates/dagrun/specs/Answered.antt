@@ -8,6 +8,8 @@ use Rattle.dag_main_args.specs.declared.request.Request.{Request}
 use Rattle.dag_main_args.specs.Answered.{IsAskedFor, IsRefused}
 use Rattle.dag_main_args.specs.Requests.{Asked, asked_by, checks, runs, views, rehearses, salvages, redoes, shows, Shown, the_status, the_audit, the_graph, the_reasons, the_times, the_page, no_limits, limits_in, AreLimits}
 use Rattle.dag_main_args.specs.declared.request.RunOptions.{RunOptions}
+use Rattle.dag_main_args.specs.declared.request.FoldRule.{FoldRule}
+use Rattle.dag_main_args.specs.declared.request.FoldRule.TheVariants.{AtTerminal, Folded}
 use Rattle.dag_main_files.specs.Beside.{IsRefusalOf}
 use Rattle.dag_main_files.specs.Folder.{IsReadFrom, Paths, any_paths, these_paths}
 use Rattle.dag_main_files.specs.Opened.{Holding, changing, fixed}
@@ -202,10 +204,24 @@ abbrev pub form_asked : (json : Bool) → Form
 form_asked false = Lines
 form_asked true = Json
 
--- `graph` draws a box for each node, or one for those that are alike
-abbrev pub shape_asked : (fold : Bool) → Shape
-shape_asked false = Nodes
-shape_asked true = Boxes
+-- `graph` draws one box for nodes that are alike where that is asked for, and else one for each node
+abbrev pub shape_asked : FoldRule → Shape
+shape_asked Folded = Boxes
+shape_asked _ = Nodes
+
+-- Where words say nothing of that, it is asked for if standard output is a terminal: the rule, what is shown of a round, and what is asked for, with this settled.
+-- Nothing else goes by the terminal.
+abbrev pub fold_at : (to_terminal : Bool) → FoldRule → FoldRule
+fold_at true AtTerminal = Folded
+fold_at to_terminal fold = fold
+
+abbrev pub shown_at : (to_terminal : Bool) → Shown → Shown
+shown_at to_terminal (the_graph fold as_is) = the_graph (fold_at to_terminal fold) as_is
+shown_at to_terminal shown = shown
+
+abbrev pub asked_at : (to_terminal : Bool) → Asked → Asked
+asked_at to_terminal (views path shown begun trust_owner) = views path (shown_at to_terminal shown) begun trust_owner
+asked_at to_terminal asked = asked
 
 -- how `times` shows the phases; no two of a picture, JSON, a summary and rounds are ever asked for together
 abbrev pub times_form : (svg json summary rounds : Bool) → TimesForm
@@ -377,13 +393,13 @@ pub record AskFor (words : List (List ℕ)) (request : Request) : Type 0 where
   pub said : 1 < length words → IsAskedFor words request
   pub limited : IfSome (limits_in (asked_by request)) AreLimits
 
--- The exit status of the program on a command line of these words: that with which the reply to what they ask for is displayed; or 125, where they ask for
--- nothing, and where there is no memory to read them.
-pub data IsExit (Replies : Asked → Result Answer RunFault → Type 0) (words : List (List ℕ)) : ℕ → Type 0 where
-  of_reply : (request : Request) (reply : Result Answer RunFault) (status : ℕ) → AskFor words request → Replies (asked_by request) reply →
-      IsExitStatusOf reply status → IsExit Replies words status
-  of_refused_words : IsRefused words → IsExit Replies words 125
-  of_no_memory : IsExit Replies words 125
+-- The exit status of the program on a command line of these words, where standard output is a terminal or is none: that with which the reply to what they ask for is displayed;
+-- or 125, where they ask for nothing, and where there is no memory to read them.
+pub data IsExit (to_terminal : Bool) (Replies : Asked → Result Answer RunFault → Type 0) (words : List (List ℕ)) : ℕ → Type 0 where
+  of_reply : (request : Request) (reply : Result Answer RunFault) (status : ℕ) → AskFor words request → Replies (asked_at to_terminal (asked_by request)) reply →
+      IsExitStatusOf reply status → IsExit to_terminal Replies words status
+  of_refused_words : IsRefused words → IsExit to_terminal Replies words 125
+  of_no_memory : IsExit to_terminal Replies words 125
 
 -- What is displayed before the reply to a request: the hints of a check that is refused, where they are asked for; else nothing, since an answer has
 -- its hints after its warnings.
@@ -397,11 +413,11 @@ pub record IsDisplayedThen (before after : Streams) (reply : Result Answer RunFa
   pub displayed : IsDisplayedAs before shown reply status
   pub more : OnlyWarnsAtTerminal shown after
 
--- What the program displays for a command line of these words, and its exit status: the reply to what they ask for, after the hints of a check that is
+-- What the program displays for a command line of these words, where standard output is a terminal or is none, and its exit status: the reply to what they ask for, after the hints of a check that is
 -- refused where these are asked for, and at a terminal what may help after it; or, where they ask for nothing, one text on standard error, which says why; or that there is no memory to
 -- read them.
-pub data IsCall (Replies : Asked → Result Answer RunFault → Type 0) (words : List (List ℕ)) (before after : Streams) : ℕ → Type 0 where
-  replied : (request : Request) (reply : Result Answer RunFault) (hinted : Streams) (status : ℕ) → AskFor words request → Replies (asked_by request) reply →
-      AreHints (asked_by request) reply before hinted → IsDisplayedThen hinted after reply status → IsCall Replies words before after status
-  words_refused : IsRefused words → OnlyWarns before after → IsCall Replies words before after 125
-  no_memory : (status : ℕ) → IsDisplayedThen before after (Err Memory) status → IsCall Replies words before after status
+pub data IsCall (to_terminal : Bool) (Replies : Asked → Result Answer RunFault → Type 0) (words : List (List ℕ)) (before after : Streams) : ℕ → Type 0 where
+  replied : (request : Request) (reply : Result Answer RunFault) (hinted : Streams) (status : ℕ) → AskFor words request → Replies (asked_at to_terminal (asked_by request)) reply →
+      AreHints (asked_at to_terminal (asked_by request)) reply before hinted → IsDisplayedThen hinted after reply status → IsCall to_terminal Replies words before after status
+  words_refused : IsRefused words → OnlyWarns before after → IsCall to_terminal Replies words before after 125
+  no_memory : (status : ℕ) → IsDisplayedThen before after (Err Memory) status → IsCall to_terminal Replies words before after status

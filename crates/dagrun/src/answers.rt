@@ -16,13 +16,16 @@ ghost use Rattle.dag_main_files.specs.Folder.{any_paths, these_paths};
 ghost use Rattle.dag_main_files.specs.Opened.{changing, fixed};
 ghost use Rattle.redo.specs.Answered.{IsRedo, IsNoRedo};
 ghost use Rattle.dag_main_run.specs.Sites.{rounds_at};
+ghost use Rattle.dag_main_run.specs.RunChanges.{found_where};
+ghost use Rattle.redo.specs.Changes.{MakesRedo};
+ghost use Rattle.dagrun.specs.Changes.{ChangesOfRun, ChangesOfSalvage, ChangesAs};
 ghost use Rattle.dagrun.specs.Answered.{is_run, changing_files, held_in, run_contract, command_contract, ComesTo, IsPage, IsRehearsalWith, IsRehearsalRefusalWith, IsSalvageWith, AreHints};
 
 use crate::checking::{check, check_form};
 use crate::of_round::show;
 use dag_main_args::{Request, RunOptions};
 use dag_main_check::{Answer, Console, RunFault};
-use dag_main_files::{Folder, Place, read_input, refused};
+use dag_main_files::{Changes, Folder, Place, read_input, refused};
 use dag_main_inspect::{Form, Question, answer_here, report_here};
 use dag_main_run::{Screen, Site, run_dag};
 use file_hints::Wanted;
@@ -49,7 +52,13 @@ pub(crate) fn answer_in<
     R: Files<File = File> + Processes + Clock + Screen + AllocGlobal + Copy + Drop,
     C: Console,
     F: Site,
->(rt: &R, console: &mut C, folder: &F, request: Request<'_>) -> Result<Answer, RunFault>
+>(
+    rt: &R,
+    console: &mut C,
+    folder: &F,
+    request: Request<'_>,
+    changes: &mut Changes,
+) -> Result<Answer, RunFault>
     ensures some { (is_run (asked_by request.entry) ≡ true → ¬ (F.streams folder.now)) → ComesTo (command_contract changing_files
         (rounds_at F.Journal.Disk F.Rescue.Disk (F.own folder.now) (F.honest folder.now) (F.holds folder.now))
         (asked_by request.entry)) result }
@@ -60,21 +69,23 @@ pub(crate) fn answer_in<
         (asked_by request.entry)) result }
     ensures hinted { C.honest console.new → AreHints (asked_by request.entry) result (C.shown console.old) (C.shown console.new) }
     ensures back { C.honest console.new → C.honest console.old }
+    // What the command changes beside the DAG file: only `run`, `salvage` and `redo` change anything.
+    ensures changes { ChangesAs (found_where (F.honest folder.now) (F.holds folder.now) (F.has folder.now)) (asked_by request.entry) result changes.old changes.new }
 {
     match request {
-        Request::Run { dag, options } => run_in(rt, folder, dag, &options),
+        Request::Run { dag, options } => run_in(rt, folder, dag, &options, changes),
         Request::Show { round, view } => show(rt, folder, &round, view),
         Request::Salvage {
             dag,
             ended,
             trust_owner,
-        } => salvage_in(rt, folder, dag, ended, trust_owner),
+        } => salvage_in(rt, folder, dag, ended, trust_owner, changes),
         Request::Redo {
             dag,
             nodes,
             only,
             trust_owner,
-        } => redo_in(rt, folder, dag, &nodes, only, trust_owner),
+        } => redo_in(rt, folder, dag, &nodes, only, trust_owner, changes),
         Request::Page { text } => Ok(page(rt.alloc(), text)),
         Request::Check {
             dag,
@@ -116,6 +127,7 @@ fn run_in<R: Files<File = File> + Processes + Clock + Screen + AllocGlobal + Cop
     folder: &F,
     dag: &str,
     options: &RunOptions,
+    changes: &mut Changes,
 ) -> Result<Answer, RunFault>
     ensures some { ¬ (F.streams folder.now) → ComesTo (command_contract changing_files
         (rounds_at F.Journal.Disk F.Rescue.Disk (F.own folder.now) (F.honest folder.now) (F.holds folder.now))
@@ -123,8 +135,10 @@ fn run_in<R: Files<File = File> + Processes + Clock + Screen + AllocGlobal + Cop
     ensures held { F.honest folder.now → ¬ (F.streams folder.now) → ComesTo (command_contract (held_in (F.holds folder.now) (F.has folder.now))
         (rounds_at F.Journal.Disk F.Rescue.Disk (F.own folder.now) (F.honest folder.now) (F.holds folder.now))
         (runs dag.now options.now)) result }
+    ensures changes { ChangesOfRun (found_where (F.honest folder.now) (F.holds folder.now) (F.has folder.now) dag.now options.now) dag.now options.now
+        result changes.old changes.new }
 {
-    let answer = run_or_report(rt, folder, dag, options)?;
+    let answer = run_or_report(rt, folder, dag, options, changes)?;
     if !options.json {
         return Ok(answer);
     }
@@ -141,25 +155,33 @@ fn run_in<R: Files<File = File> + Processes + Clock + Screen + AllocGlobal + Cop
 fn run_or_report<
     R: Files<File = File> + Processes + Clock + Screen + AllocGlobal + Copy + Drop,
     F: Site,
->(rt: &R, folder: &F, dag: &str, options: &RunOptions) -> Result<Answer, RunFault>
+>(
+    rt: &R,
+    folder: &F,
+    dag: &str,
+    options: &RunOptions,
+    changes: &mut Changes,
+) -> Result<Answer, RunFault>
     ensures some { ¬ (F.streams folder.now) → ComesTo (run_contract changing_files
         (rounds_at F.Journal.Disk F.Rescue.Disk (F.own folder.now) (F.honest folder.now) (F.holds folder.now))
         dag.now options.now) result }
     ensures held { F.honest folder.now → ¬ (F.streams folder.now) → ComesTo (run_contract (held_in (F.holds folder.now) (F.has folder.now))
         (rounds_at F.Journal.Disk F.Rescue.Disk (F.own folder.now) (F.honest folder.now) (F.holds folder.now))
         dag.now options.now) result }
+    ensures changes { ChangesOfRun (found_where (F.honest folder.now) (F.holds folder.now) (F.has folder.now) dag.now options.now) dag.now options.now
+        result changes.old changes.new }
 {
     let place = Place {
         folder: folder.seat(),
         top: dag,
     };
     if !options.resume {
-        return run_dag(*rt, folder, &place, options);
+        return run_dag(*rt, folder, &place, options, changes);
     }
     let told = report_here(rt.alloc(), folder, dag)?;
     match told {
         Some(answer) => Ok(answer),
-        None => run_dag(*rt, folder, &place, options),
+        None => run_dag(*rt, folder, &place, options, changes),
     }
 }
 
@@ -189,6 +211,7 @@ fn salvage_in<R: Files<File = File> + Clock + AllocGlobal + Copy + Drop, F: Site
     dag: &str,
     ended: bool,
     trust_owner: bool,
+    changes: &mut Changes,
 ) -> Result<Answer, RunFault>
     ensures answered { IfOk result (λ answer. IsSalvageWith (IsSalvageOf ended dag.now) (IsSalvageFault ended any_files dag.now)
         (string_bytes answer.text) (string_bytes answer.warnings) answer.status) }
@@ -198,12 +221,13 @@ fn salvage_in<R: Files<File = File> + Clock + AllocGlobal + Copy + Drop, F: Site
     ensures refused { IfErr result (λ fault. IsSalvageFault ended any_files dag.now (Refused fault)) }
     ensures refused_held { F.honest folder.now
         → IfErr result (λ fault. IsSalvageFault ended (held_files (F.holds folder.now) (F.has folder.now) dag.now) dag.now (Refused fault)) }
+    ensures changes { ChangesOfSalvage dag.now ended result changes.old changes.new }
 {
     let place = Place {
         folder: folder.seat(),
         top: dag,
     };
-    match salvage_here(*rt, folder, &place, ended, trust_owner) {
+    match salvage_here(*rt, folder, &place, ended, trust_owner, changes) {
         Ok(answer) => Ok(answer),
         Err(fault) => {
             let own = fault.own()?;
@@ -220,6 +244,7 @@ fn redo_in<R: Files<File = File> + Clock + AllocGlobal + Copy + Drop, F: Site>(
     nodes: &[&str],
     only: bool,
     trust_owner: bool,
+    changes: &mut Changes,
 ) -> Result<Answer, RunFault>
     ensures redone { IfOk result (λ answer. IsRedo changing any_paths dag.now (map (λ n. n.now) nodes.now) only
         (string_bytes answer.text) (string_bytes answer.warnings) answer.status) }
@@ -227,12 +252,13 @@ fn redo_in<R: Files<File = File> + Clock + AllocGlobal + Copy + Drop, F: Site>(
         (string_bytes answer.text) (string_bytes answer.warnings) answer.status) }
     ensures refused { IfErr result (IsNoRedo changing dag.now) }
     ensures refused_held { F.honest folder.now → IfErr result (IsNoRedo (fixed (F.holds folder.now)) dag.now) }
+    ensures changes { MakesRedo dag.now result changes.old changes.new }
 {
     let place = Place {
         folder: folder.seat(),
         top: dag,
     };
-    redo_here(*rt, folder, &place, nodes, only, trust_owner)
+    redo_here(*rt, folder, &place, nodes, only, trust_owner, changes)
 }
 
 /// What `rehearse` answers, by the table of outcomes where one is named.

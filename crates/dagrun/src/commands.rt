@@ -1,16 +1,18 @@
 //! The program's commands over the system's files and streams.
 
-ghost use Rattle.std.specs.Prelude.{◌≡◌, map};
-ghost use Rattle.dag_main_args.specs.Requests.{asked_by};
+ghost use Rattle.std.specs.Prelude.{◌≡◌, map, Result};
+ghost use Rattle.dag_main_args.specs.Requests.{asked_by, shown_by};
 ghost use Rattle.dag_main_check.specs.Consoles.{IsExitStatusOf};
 ghost use Rattle.dag_main_run.specs.Sites.{rounds_at};
-ghost use Rattle.dagrun.specs.Answered.{is_beside, is_owner_trusted, IsReply, IsExit, AreHints, IsDisplayedThen, IsCall};
+ghost use Rattle.dagrun.specs.Answered.{fold_at, shown_at, asked_at, is_beside, is_owner_trusted, IsReply, IsExit, AreHints, IsDisplayedThen, IsCall};
 
 use crate::answers::{REFUSED, answer_in};
 use crate::host::Host;
+use crate::of_round::graph_asked;
 use crate::terminal::{Postscript, display_hint, display_hint_of_answer, display_postscript};
-use dag_main_args::{ProgressRule, Request, ShownRound, View, WordsFault, read_words};
+use dag_main_args::{FoldRule, ProgressRule, Request, ShownRound, View, WordsFault, read_words};
 use dag_main_check::{Answer, Console, RunFault, display_reply};
+use dag_main_files::Changes;
 use dag_main_run::Screen;
 use std::fs::File;
 use std::process::Processes;
@@ -18,7 +20,7 @@ use std::rt::{Env, Files};
 use std::time::{Clock, Duration};
 
 /// Runs the command of these words, of which the first is the program's name, and answers the
-/// exit status.
+/// exit status; `to_terminal` says whether standard output is a terminal, on which `graph` folds by itself.
 ///
 /// What the command prints is on standard output, its warnings on standard error; a refused
 /// command line is reported by clap's text on standard error, a refused input by one line
@@ -28,23 +30,35 @@ pub fn run<
     R: Files<File = File> + Processes + Clock + Screen + Input + AllocGlobal + Copy + Drop,
     H: Host,
     C: Console,
->(rt: &R, host: &H, console: &mut C, words: &[&str]) -> u8
+>(
+    rt: &R,
+    host: &H,
+    console: &mut C,
+    words: &[&str],
+    to_terminal: bool,
+    changes: &mut Changes,
+) -> u8
     // It is that of the reply to what the words ask for, or 125 where they ask for nothing. Where the host is honest, the reply
     // is that of the files that it holds, and a round is led by its disks and children.
-    ensures exit { IsExit (IsReply (H.honest host.now) (H.is_lost host.now) (H.world host.now)
+    ensures exit { IsExit to_terminal (IsReply (H.honest host.now) (H.is_lost host.now) (H.world host.now)
         (rounds_at H.Here.Journal.Disk H.Here.Rescue.Disk (H.own host.now) (H.honest host.now) (H.world host.now).holds))
         (map (λ w. w.now) words.now) result }
     // On an honest console that reply is displayed: all that is printed is the text of the answer.
-    ensures shown { C.honest console.new → IsCall (IsReply (H.honest host.now) (H.is_lost host.now) (H.world host.now)
+    ensures shown { C.honest console.new → IsCall to_terminal (IsReply (H.honest host.now) (H.is_lost host.now) (H.world host.now)
         (rounds_at H.Here.Journal.Disk H.Here.Rescue.Disk (H.own host.now) (H.honest host.now) (H.world host.now).holds))
         (map (λ w. w.now) words.now) (C.shown console.old) (C.shown console.new) result }
     ensures back { C.honest console.new → C.honest console.old }
+    // What the command changes beside its DAG file, and in which order; only `run`, `salvage` and `redo` change anything.
+    ensures changes { ChangesAsAsked (found_where (H.honest host.now) (H.world host.now).holds (H.world host.now).has) to_terminal
+        (IsReply (H.honest host.now) (H.is_lost host.now) (H.world host.now)
+        (rounds_at H.Here.Journal.Disk H.Here.Rescue.Disk (H.own host.now) (H.honest host.now) (H.world host.now).holds))
+        (map (λ w. w.now) words.now) changes.old changes.new }
 {
     match read_words(rt.alloc(), words) {
         Ok(request) => {
             let dag = dag_in(&request);
-            let postscript = postscript_to(rt, &request);
-            let reply = answer(rt, host, console, request);
+            let postscript = postscript_to(rt, &request, to_terminal);
+            let reply = answer(rt, host, console, request_at(to_terminal, request), changes);
             finish(rt, console, dag, postscript, &reply)
         }
         Err(WordsFault::Refused(text)) => {
@@ -63,6 +77,42 @@ pub fn run<
     }
 }
 
+/// The rule by which a graph is drawn: where words say nothing of it, nodes of one shape have one box if standard output is a terminal.
+fn fold_at(to_terminal: bool, fold: FoldRule) -> FoldRule
+    ensures { result ≡ fold_at to_terminal fold }
+{
+    match (to_terminal, fold) {
+        (true, FoldRule::AtTerminal) => FoldRule::Folded,
+        _ => fold,
+    }
+}
+
+/// What is shown of a round, with that settled.
+fn view_at<'a>(to_terminal: bool, view: View<'a>) -> View<'a>
+    ensures { shown_by result ≡ shown_at to_terminal (shown_by view.entry) }
+{
+    match view {
+        View::Graph { fold, as_is } => View::Graph {
+            fold: fold_at(to_terminal, fold),
+            as_is,
+        },
+        other => other,
+    }
+}
+
+/// What is asked for, with that settled.
+fn request_at<'a>(to_terminal: bool, request: Request<'a>) -> Request<'a>
+    ensures { asked_by result ≡ asked_at to_terminal (asked_by request.entry) }
+{
+    match request {
+        Request::Show { round, view } => Request::Show {
+            round,
+            view: view_at(to_terminal, view),
+        },
+        other => other,
+    }
+}
+
 /// What is answered to a request, by the files of the folder in which the program was called; `check` and `rehearse` read
 /// standard input where `-` is asked for.
 ///
@@ -73,18 +123,26 @@ fn answer<
     R: Files<File = File> + Processes + Clock + Screen + AllocGlobal + Copy + Drop,
     H: Host,
     C: Console,
->(rt: &R, host: &H, console: &mut C, request: Request<'_>) -> Result<Answer, RunFault>
+>(
+    rt: &R,
+    host: &H,
+    console: &mut C,
+    request: Request<'_>,
+    changes: &mut Changes,
+) -> Result<Answer, RunFault>
     ensures reply { IsReply (H.honest host.now) (H.is_lost host.now) (H.world host.now)
         (rounds_at H.Here.Journal.Disk H.Here.Rescue.Disk (H.own host.now) (H.honest host.now) (H.world host.now).holds)
         (asked_by request.entry) result }
     ensures hinted { C.honest console.new → AreHints (asked_by request.entry) result (C.shown console.old) (C.shown console.new) }
     ensures back { C.honest console.new → C.honest console.old }
+    ensures changes { ChangesAs (found_where (H.honest host.now) (H.world host.now).holds (H.world host.now).has) (asked_by request.entry) result
+        changes.old changes.new }
 {
     if !is_beside(&request) {
-        return answer_in(rt, console, &host.inputs(), request);
+        return answer_in(rt, console, &host.inputs(), request, changes);
     }
     let here = host.here(is_owner_trusted(&request))?;
-    answer_in(rt, console, &here, request)
+    answer_in(rt, console, &here, request, changes)
 }
 
 /// Whether a request is for a run, and so for the files that stand beside a DAG file.
@@ -123,20 +181,22 @@ fn dag_in<'a>(request: &Request<'a>) -> Option<&'a str> {
 }
 
 /// What is displayed after what is shown of a round.
-fn postscript_of(round: &ShownRound<'_>, view: &View<'_>) -> Postscript {
+fn postscript_of(round: &ShownRound<'_>, view: &View<'_>, to_terminal: bool) -> Postscript {
     let trusts_owner = round.trust_owner;
     match view {
         View::Status { json: false } => Postscript::Totals { trusts_owner },
         View::Why { json: false, .. } => Postscript::Worker { trusts_owner },
         View::Status { .. } | View::Why { .. } => Postscript::Nothing,
-        View::Graph { as_is: true, .. } => Postscript::Nothing,
-        View::Graph { .. } if !round.as_begun => Postscript::ChangesDrawn,
+        View::Graph { fold, as_is } => Postscript::Drawing {
+            folds_by_itself: to_terminal && *fold == FoldRule::AtTerminal,
+            by: graph_asked(*as_is, round.as_begun),
+        },
         _ => Postscript::Changes,
     }
 }
 
 /// What is displayed after the answer to a request.
-fn postscript_to<R: Clock>(rt: &R, request: &Request<'_>) -> Postscript {
+fn postscript_to<R: Clock>(rt: &R, request: &Request<'_>, to_terminal: bool) -> Postscript {
     match request {
         Request::Run { options, .. } if options.progress != ProgressRule::Never && !options.json =>
             {
@@ -150,7 +210,7 @@ fn postscript_to<R: Clock>(rt: &R, request: &Request<'_>) -> Postscript {
             condor: false,
             ..
         } => Postscript::Hints,
-        Request::Show { round, view } => postscript_of(round, view),
+        Request::Show { round, view } => postscript_of(round, view, to_terminal),
         _ => Postscript::Nothing,
     }
 }

@@ -13,6 +13,7 @@ mod terminal;
 use answers::REFUSED;
 use commands::run;
 use dag_main_check::SystemConsole;
+use dag_main_files::Changes;
 use dag_main_run::Screen;
 use host::SystemHost;
 use shorthand::spelled_out;
@@ -174,5 +175,15 @@ fn run_words(rt: &HostRuntime) -> io::Result<u8> {
         rt,
         at_terminal: rt.is_terminal(),
     };
-    Ok(run(rt, &SystemHost { rt }, &mut console, &words))
+    let to_terminal = rt.stdout().is_terminal();
+    let mut changes = Changes::new();
+    let host = SystemHost { rt };
+    Ok(run(
+        rt,
+        &host,
+        &mut console,
+        &words,
+        to_terminal,
+        &mut changes,
+    ))
 }

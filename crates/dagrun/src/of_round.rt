@@ -5,7 +5,7 @@ ghost use Rattle.dag_main_args.specs.Requests.{shown_by};
 ghost use Rattle.dag_main_files.specs.Opened.{changing, fixed};
 ghost use Rattle.dagrun.specs.Answered.{why_form, form_asked, shape_asked, times_form, files_asked, round_asked, graph_asked, files_for_view, IsView, IsNoView, changing_files, held_in, view_contract, ComesTo};
 
-use dag_main_args::{ShownRound, VERSION, View};
+use dag_main_args::{FoldRule, ShownRound, VERSION, View};
 use dag_main_check::{Answer, RunFault};
 use dag_main_files::{Folder, Place};
 use dag_main_inspect::{Form, Question, Shape, answer_here};
@@ -36,11 +36,14 @@ fn form_asked(json: bool) -> Form
     if json { Form::Json } else { Form::Lines }
 }
 
-/// What `graph` draws: a box for each node, or one for those that are alike.
-fn shape_asked(fold: bool) -> Shape
+/// What `graph` draws: one box for nodes that are alike where that is asked for, else one for each node.
+fn shape_asked(fold: FoldRule) -> Shape
     ensures { result ≡ shape_asked fold }
 {
-    if fold { Shape::Boxes } else { Shape::Nodes }
+    match fold {
+        FoldRule::Folded => Shape::Boxes,
+        _ => Shape::Nodes,
+    }
 }
 
 /// How `times` shows the phases; no two of a picture, JSON, a summary and rounds are ever asked for together.
@@ -80,7 +83,7 @@ fn round_asked(as_begun: bool) -> ByFiles
 }
 
 /// By which files `graph` draws a round: as `round_asked`, unless the files are to be drawn as they are.
-fn graph_asked(as_is: bool, as_begun: bool) -> ByFiles
+pub(crate) fn graph_asked(as_is: bool, as_begun: bool) -> ByFiles
     ensures { result ≡ graph_asked as_is as_begun }
 {
     if as_is {

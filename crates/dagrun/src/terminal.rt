@@ -12,7 +12,7 @@ use event_journal_log::Peek;
 use fault_guide::{Evidence, Refusal, hint_text};
 use file_hints::{Wanted, hints_of};
 use log_lines::{push_word, read_line, unquoted, whole_lines};
-use round_inputs::{Inputs, Listed, inputs_in, list_file};
+use round_inputs::{ByFiles, Inputs, Listed, inputs_in, list_file};
 use std::alloc::{AllocError, Global};
 use std::env;
 use std::fs::{self, File, Metadata, OpenOptions, TryLockError};
@@ -46,6 +46,10 @@ const NOBODY: &str = "no manager";
 /// The codes of faults of a node, by whose name their lines end.
 const OF_A_NODE: [&str; 7] = ["V1", "V2", "V3", "V4", "V5", "P4", "P5"];
 
+/// What is displayed after a drawing that is folded though nobody asked for it.
+const FOLDED: &str =
+    "folded: nodes of one shape are one box; --no-fold shows each node, as into a file\n";
+
 /// How many changed files are named.
 const MOST_CHANGED: usize = 5;
 
@@ -66,8 +70,9 @@ pub(crate) enum Postscript {
     Worker { trusts_owner: bool },
     /// Which files are changed since the last round began.
     Changes,
-    /// The same after a drawing that is by the files with which it began, and how they are drawn as they are.
-    ChangesDrawn,
+    /// Whether a drawing is folded though nobody asked for it; and, by the files by which the round is drawn, which of them are changed
+    /// since it began, and how they are drawn as they are.
+    Drawing { folds_by_itself: bool, by: ByFiles },
 }
 
 impl Postscript {
@@ -880,6 +885,27 @@ fn odd_text<R: Files<File = File> + Env + Input + AllocGlobal + Copy + Drop>(
     }
 }
 
+/// Which files are changed since the round of this DAG file began that is drawn by these files; and how they are drawn as they are, where that isn't
+/// done and no other files were asked for.
+fn drawn_changes<R: Files + AllocGlobal>(
+    rt: &R,
+    dag: &str,
+    by: ByFiles,
+) -> Result<String, AllocError> {
+    let alloc = rt.alloc();
+    if by == ByFiles::AsTheyAre {
+        return Ok(String::new(alloc));
+    }
+    match changed_files(rt, dag)? {
+        Some(changes) if by == ByFiles::AsKept => format!(in alloc;
+            "{changes}; dagrun graph --as-is {} draws the files as they are\n",
+            quoted(alloc, dag)?
+        ),
+        Some(changes) => format!(in alloc; "{changes}\n"),
+        None => Ok(String::new(alloc)),
+    }
+}
+
 /// What is displayed at a terminal after the answer to a request for this DAG file, of which this was printed.
 fn postscript_of<R: Files<File = File> + Clock + Env + Input + AllocGlobal + Copy + Drop>(
     rt: &R,
@@ -905,13 +931,14 @@ fn postscript_of<R: Files<File = File> + Clock + Env + Input + AllocGlobal + Cop
             Some(changes) => format!(in alloc; "{changes}\n"),
             None => Ok(String::new(alloc)),
         },
-        Postscript::ChangesDrawn => match changed_files(rt, dag)? {
-            Some(changes) => format!(in alloc;
-                "{changes}; dagrun graph --as-is {} draws the files as they are\n",
-                quoted(alloc, dag)?
-            ),
-            None => Ok(String::new(alloc)),
-        },
+        Postscript::Drawing {
+            folds_by_itself,
+            by,
+        } => {
+            let folded = if folds_by_itself { FOLDED } else { "" };
+            let changes = drawn_changes(rt, dag, by)?;
+            format!(in alloc; "{folded}{changes}")
+        }
     }
 }
 

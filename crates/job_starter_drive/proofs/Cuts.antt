@@ -62,5 +62,5 @@ module _ (limits : Limits) (plan : Plan) (may : Telling) where
 
 pub kills-tell : (call_log last : List Call) → Kills call_log last → IsOlderPart call_log last
 kills-tell call_log _ nobody = older-self call_log
-kills-tell call_log _ (one_killed {later_log = later_log} {key = key} before ran) =
+kills-tell call_log _ (one_killed {later_log = later_log} {key = key} before ran first) =
     older-then call_log later_log (calls.Killed key ∷ later_log) (kills-tell call_log later_log before) (older-one (calls.Killed key) later_log)

@@ -211,7 +211,7 @@ module _ (limits : Limits) (plan : Plan) (may : Telling) (past : List Record) (c
 
 kills-same : (call_log last : List Call) → Kills call_log last → endings_in last ≡ endings_in call_log
 kills-same call_log _ nobody = refl
-kills-same call_log _ (one_killed {later_log = later_log} {key = key} before ran) = kills-same call_log later_log before
+kills-same call_log _ (one_killed {later_log = later_log} {key = key} before ran first) = kills-same call_log later_log before
 
 -- so do those that were stopped
 pub stopped-endings : (limits : Limits) (plan : Plan) (may : Telling) (past : List Record) (call_log : List Call) (fault : DriveFault) (refused after : List Record) (last : List Call)

@@ -22,7 +22,7 @@ use Rattle.job_starter_drive.specs.Drives.{Standing, at_rest, AreInStep, IsSpawn
 pub goes-kills : (limits : Limits) (plan : Plan) (may : Telling) (past : List Record) (call_log last : List Call)
     → outstanding plan past ≡ [] → Kills call_log last → Goes limits plan may (at_rest past call_log) (at_rest past last)
 goes-kills limits plan may past call_log _ empty nobody = no_step
-goes-kills limits plan may past call_log _ empty (one_killed {key = key} k ran) =
+goes-kills limits plan may past call_log _ empty (one_killed {key = key} k ran first) =
     one_more (goes-kills limits plan may past call_log _ empty k) (kill_child ran (ap (is_among key) empty))
 
 -- what may be told stays so, or comes to be less and less

@@ -29,7 +29,7 @@ use Rattle.job_starter_drive.specs.declared.Started.{Started}
 use Rattle.job_starter_drive.specs.declared.Started.TheVariants.{Running, NotStarted}
 use Rattle.job_starter_drive.specs.declared.driving.DriveFault.{DriveFault}
 use Rattle.job_starter_drive.specs.declared.driving.DriveFault.TheVariants as drives
-use Rattle.job_starter_drive.specs.Calls.{running, is_halt_seen, snapshot_of, MayRun, MightHalt, Telling}
+use Rattle.job_starter_drive.specs.Calls.{running, oldest, is_halt_seen, snapshot_of, MayRun, MightHalt, Telling}
 
 -- the limits that a manager keeps to
 abbrev pub limits_of : {D : Type 0} → Managed D → Limits
@@ -193,10 +193,11 @@ pub data Starts (call_log : List Call) : List Call → Type 0 where
       → Starts call_log (calls.Started key command answer ∷ later_log)
   one_halt : {later_log : List Call} → Starts call_log later_log → Starts call_log (calls.HaltSeen ∷ later_log)
 
--- running children are killed one after another
+-- running children are killed one after another, each time the one that was started first
 pub data Kills (call_log : List Call) : List Call → Type 0 where
   nobody : Kills call_log call_log
-  one_killed : {later_log : List Call} {key : Key} → Kills call_log later_log → IsTrue (is_among key (running later_log)) → Kills call_log (calls.Killed key ∷ later_log)
+  one_killed : {later_log : List Call} {key : Key} → Kills call_log later_log → IsTrue (is_among key (running later_log)) → oldest (running later_log) ≡ Some key →
+      Kills call_log (calls.Killed key ∷ later_log)
 
 -- the newest record aborted the run
 abbrev pub AbortsAtLast : Plan → List Record → Type 0

@@ -1,3 +1,4 @@
 pub mod Running
 pub mod Numbered
 pub mod Answers
+mod Changes

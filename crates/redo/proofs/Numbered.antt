@@ -18,6 +18,10 @@ over-is journal peek (found, reads, used_is, next_is, flag_is, finished_is) over
 pub none-is : (journal : List ℕ) → ReadsPeek None (replay_of journal) → is_cut_short (replay_of journal) ≡ false
 none-is journal reads = ap is_cut_short reads
 
+-- one whose last record is not Finish was cut short
+pub cut-short-is : (journal : List ℕ) (peek : Peek) → ReadsPeek (Some peek) (replay_of journal) → peek.finished ≡ false → is_cut_short (replay_of journal) ≡ true
+cut-short-is journal peek (found, reads, used_is, next_is, flag_is, finished_is) unfinished = ap is_cut_short reads ∙ ap not (finished_is ∙ unfinished)
+
 pub in-folder : (Counts : ℕ → Type 0) (journal : List ℕ) (number : ℕ) → is_cut_short (replay_of journal) ≡ false → (highest : ℕ) × Counts highest × (number ≡ number_behind highest) → IsNumberWith Counts journal number
 in-folder Counts journal number isnt (highest, counts, is) = after_highest highest counts isnt is
 

@@ -1,3 +1,4 @@
 pub mod Redone
 pub mod Numbers
 pub mod Answered
+pub mod Changes

@@ -1,18 +1,22 @@
 //! Nodes of the last round that are to run again, from the files that are beside its DAG file.
 
-ghost use Rattle.std.specs.Prelude.{◌≡◌, [], map, IfOk, IfErr, string_bytes};
+ghost use Rattle.std.specs.Prelude.{◌≡◌, ◌++◌, ℕ, [], map, IfOk, IfErr, string_bytes};
 ghost use Rattle.rescue_file.specs.Numbered.{IsFileNumber, rescue_name_of};
+ghost use Rattle.event_journal_log.specs.Image.{replay_of};
 ghost use Rattle.dag_main_check.specs.declared.fault.RunFault.TheVariants.{Memory};
 ghost use Rattle.salvage.specs.Salvaged.{report_line};
+ghost use Rattle.dag_main_files.specs.Beside.{journal_name_of, IsRefusalOf};
+ghost use Rattle.dag_main_files.specs.Changes.{Makes};
 ghost use Rattle.dag_main_files.specs.Folder.{any_paths, these_paths};
 ghost use Rattle.dag_main_files.specs.Opened.{changing, fixed};
 ghost use Rattle.redo.specs.Answered.{no_round_line, IsMarkedOf, IsFoundOfNames, IsRedoReport, IsRedo, IsNotWritten, IsNoRedo};
-ghost use Rattle.redo.specs.Numbers.{IsNextNumber};
+ghost use Rattle.redo.specs.Changes.{clears_cut_short, writes_redone, MakesRedone, MakesRedo};
+ghost use Rattle.redo.specs.Numbers.{is_cut_short, IsNextNumber};
 
 use crate::marks::{Redone, redone_text};
 use crate::numbers::next_number;
 use dag_main_check::{Answer, RunFault, warning_text};
-use dag_main_files::{Folder, Place, journal_path, rescue_path};
+use dag_main_files::{Changes, Folder, Place, journal_path, rescue_path};
 use dag_main_inspect::open_round;
 use failure_report::{Named, numbers_of};
 use log_lines::push_word;
@@ -104,6 +108,25 @@ fn report_of(
     Ok(text)
 }
 
+/// Puts the journal of a round away, if that was cut short.
+///
+/// # Errors
+/// `FileRefused` with the journal's path, where the system refuses it; `Memory`.
+fn clear_cut_short<R: Files<File = File> + AllocGlobal + Copy + Drop>(
+    rt: R,
+    place: &Place<'_>,
+    cut_short: bool,
+    changes: &mut Changes,
+) -> Result<(), RunFault>
+    ensures refused { IfErr result (IsRefusalOf (journal_name_of place.now.top.now)) }
+    ensures changes { Makes result (clears_cut_short cut_short place.now.top.now) changes.old changes.new }
+{
+    if !cut_short {
+        return Ok(());
+    }
+    place.put_journal_away(&rt, changes)
+}
+
 /// Writes the rescue file of a round; the journal of one that was cut short is put away then.
 ///
 /// # Errors
@@ -114,6 +137,7 @@ fn write_marked<R: Files<File = File> + AllocGlobal + Copy + Drop, F: Folder>(
     place: &Place<'_>,
     journal: &[u8],
     marked: Marked,
+    changes: &mut Changes,
 ) -> Result<Answer, RunFault>
     ensures report { IfOk result (λ answer. IsRedoReport (IsNextNumber any_paths place.now.top.now journal.now) place.now.top.now marked.redone.done marked.total (string_bytes marked.warnings)
         (string_bytes answer.text) (string_bytes answer.warnings) answer.status) }
@@ -121,6 +145,10 @@ fn write_marked<R: Files<File = File> + AllocGlobal + Copy + Drop, F: Folder>(
         IsRedoReport (IsNextNumber (these_paths (F.has folder.now)) place.now.top.now journal.now) place.now.top.now marked.redone.done marked.total (string_bytes marked.warnings)
         (string_bytes answer.text) (string_bytes answer.warnings) answer.status) }
     ensures refused { IfErr result (IsNotWritten place.now.top.now journal.now) }
+    ensures changes { MakesRedone place.now.top.now result changes.old changes.new }
+    // That is the rescue file of the text, with the round's next number; and the journal is put away of a round that was cut short alone.
+    ensures exact { IfOk result (λ answer. (number : ℕ) × IsNextNumber any_paths place.now.top.now journal.now number
+        × (changes.new ≡ changes.old ++ writes_redone place.now.top.now number (string_bytes marked.redone.text) (is_cut_short (replay_of journal.now)))) }
 {
     let alloc = rt.alloc();
     let next = next_number(alloc, folder, place.top, journal)?;
@@ -131,10 +159,8 @@ fn write_marked<R: Files<File = File> + AllocGlobal + Copy + Drop, F: Folder>(
         marked.redone.done,
         marked.total,
     )?;
-    write_rescue(rt, place, next.number, marked.redone.text.as_str())?;
-    if next.cut_short {
-        place.put_journal_away(&rt)?;
-    }
+    write_rescue(rt, place, next.number, &marked.redone.text, changes)?;
+    clear_cut_short(rt, place, next.cut_short, changes)?;
     Ok(Answer {
         text,
         warnings: marked.warnings,
@@ -152,6 +178,7 @@ fn redo_locked<R: Files<File = File> + AllocGlobal + Copy + Drop, F: Folder>(
     place: &Place<'_>,
     names: &[&str],
     only: bool,
+    changes: &mut Changes,
 ) -> Result<Answer, RunFault>
     ensures redone { IfOk result (λ answer. IsRedo changing any_paths place.now.top.now (map (λ n. n.now) names.now) only
         (string_bytes answer.text) (string_bytes answer.warnings) answer.status) }
@@ -162,13 +189,16 @@ fn redo_locked<R: Files<File = File> + AllocGlobal + Copy + Drop, F: Folder>(
     ensures refused { IfErr result (IsNoRedo changing place.now.top.now) }
     // The refusal too is for what the folder holds.
     ensures refused_held { F.honest folder.now → IfErr result (IsNoRedo (fixed (F.holds folder.now)) place.now.top.now) }
+    ensures changes { MakesRedone place.now.top.now result changes.old changes.new }
 {
     let alloc = rt.alloc();
     let round = open_round(alloc, folder, place.top)?;
     let core = round.core(alloc)?;
     let found = found_in(alloc, &core, place.top, names, only)?;
     match found {
-        Found::Marked(marked) => write_marked(rt, folder, place, round.bytes(), marked),
+        Found::Marked(marked) => {
+            write_marked(rt, folder, place, round.bytes(), marked, changes)
+        }
         Found::Unknown(line) => Ok(Answer {
             text: String::new(alloc),
             warnings: line,
@@ -230,6 +260,7 @@ pub fn redo_here<R: Files<File = File> + Clock + AllocGlobal + Copy + Drop, F: F
     names: &[&str],
     only: bool,
     trust_owner: bool,
+    changes: &mut Changes,
 ) -> Result<Answer, RunFault>
     ensures redone { IfOk result (λ answer. IsRedo changing any_paths place.now.top.now (map (λ n. n.now) names.now) only
         (string_bytes answer.text) (string_bytes answer.warnings) answer.status) }
@@ -240,6 +271,8 @@ pub fn redo_here<R: Files<File = File> + Clock + AllocGlobal + Copy + Drop, F: F
     ensures refused { IfErr result (IsNoRedo changing place.now.top.now) }
     // The refusal too is for what the folder holds.
     ensures refused_held { F.honest folder.now → IfErr result (IsNoRedo (fixed (F.holds folder.now)) place.now.top.now) }
+    // What it changes: under the lock the rescue file is written, and then the journal of a round that was cut short is put away.
+    ensures changes { MakesRedo place.now.top.now result changes.old changes.new }
 {
     let alloc = rt.alloc();
     let journal = journal_path(alloc, place.top)?;
@@ -248,8 +281,8 @@ pub fn redo_here<R: Files<File = File> + Clock + AllocGlobal + Copy + Drop, F: F
         return no_round(alloc, place.top);
     }
     has_own_files(&rt, place, trust_owner)?;
-    let lock = place.lock(&rt)?;
-    let answer = redo_locked(rt, folder, place, names, only);
-    place.unlock(&rt, lock);
+    let lock = place.lock(&rt, changes)?;
+    let answer = redo_locked(rt, folder, place, names, only, changes);
+    place.unlock(&rt, lock, changes);
     answer
 }

@@ -1,13 +1,13 @@
 //! The number of the next rescue file.
 
-ghost use Rattle.std.specs.Prelude.{◌≡◌, ◌≤◌, ℕ, List, Some, IfOk, IfErr};
+ghost use Rattle.std.specs.Prelude.{◌≡◌, ◌≤◌, ℕ, List, Some, true, false, IfOk, IfErr};
 ghost use Rattle.event_journal_log.specs.Image.{replay_of};
 ghost use Rattle.event_journal_log.specs.Peeks.{ReadsPeek};
 ghost use Rattle.rescue_file.specs.Numbered.{IsFileNumber};
 ghost use Rattle.dag_main_check.specs.declared.fault.RunFault.TheVariants.{NotThere};
 ghost use Rattle.dag_main_files.specs.Beside.{folder_name_of, IsRefusalOf, number_behind};
 ghost use Rattle.dag_main_files.specs.Folder.{IsHighestThere, any_paths, these_paths};
-ghost use Rattle.redo.specs.Numbers.{IsNextNumber, IsNoNextNumber};
+ghost use Rattle.redo.specs.Numbers.{is_cut_short, IsNextNumber, IsNoNextNumber};
 
 use dag_main_check::RunFault;
 use dag_main_files::{Folder, LAST_NUMBER, peek_in};
@@ -40,6 +40,7 @@ fn number_after(highest: u16) -> u16
 /// `NotThere` with a number that no rescue file has.
 fn next_in_header(next: u16) -> Result<Next, RunFault>
     ensures number { IfOk result (λ found. IsFileNumber found.number) }
+    ensures cut_short { IfOk result (λ found. found.cut_short ≡ true) }
     ensures same { IfOk result (λ found. found.number ≡ next) }
     ensures refused { IfErr result (λ fault. (¬ (IsFileNumber next)) × (fault ≡ NotThere next)) }
 {
@@ -58,6 +59,7 @@ fn next_in_header(next: u16) -> Result<Next, RunFault>
 /// `FileRefused` with the folder that the system refuses to list; `Memory`.
 fn next_in_folder<F: Folder>(alloc: Global, folder: &F, top: &str) -> Result<Next, RunFault>
     ensures number { IfOk result (λ found. IsFileNumber found.number) }
+    ensures cut_short { IfOk result (λ found. found.cut_short ≡ false) }
     ensures after { IfOk result (λ found. (highest : ℕ) × (highest ≤ 999) × (found.number ≡ number_behind highest)) }
     ensures held { F.honest folder.now → IfOk result (λ found. (highest : ℕ) × IsHighestThere (F.has folder.now) top.now highest × (found.number ≡ number_behind highest)) }
     ensures refused { IfErr result (IsRefusalOf (folder_name_of top.now)) }
@@ -75,6 +77,7 @@ fn next_in_folder<F: Folder>(alloc: Global, folder: &F, top: &str) -> Result<Nex
 /// As `next_number` has them but for the first.
 fn next_by<F: Folder>(alloc: Global, folder: &F, top: &str, peek: &Peek) -> Result<Next, RunFault>
     ensures number { IfOk result (λ next. IsFileNumber next.number) }
+    ensures cut_short { IfOk result (λ next. (journal : List ℕ) → ReadsPeek (Some peek.now) (replay_of journal) → next.cut_short ≡ is_cut_short (replay_of journal)) }
     ensures next { IfOk result (λ next. (journal : List ℕ) → ReadsPeek (Some peek.now) (replay_of journal) → IsNextNumber any_paths top.now journal next.number) }
     ensures held { F.honest folder.now → IfOk result (λ next. (journal : List ℕ) → ReadsPeek (Some peek.now) (replay_of journal)
         → IsNextNumber (these_paths (F.has folder.now)) top.now journal next.number) }
@@ -99,6 +102,7 @@ pub(crate) fn next_number<F: Folder>(
     journal: &[u8],
 ) -> Result<Next, RunFault>
     ensures number { IfOk result (λ next. IsFileNumber next.number) }
+    ensures cut_short { IfOk result (λ next. next.cut_short ≡ is_cut_short (replay_of journal.now)) }
     ensures next { IfOk result (λ next. IsNextNumber any_paths top.now journal.now next.number) }
     ensures held { F.honest folder.now → IfOk result (λ next. IsNextNumber (these_paths (F.has folder.now)) top.now journal.now next.number) }
     ensures refused { IfErr result (IsNoNextNumber top.now journal.now) }

@@ -1,3 +1,4 @@
 pub mod Inputs
 pub mod Begun
 pub mod AsBegun
+pub mod KeptInputs

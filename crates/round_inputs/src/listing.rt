@@ -1,14 +1,19 @@
 //! The files that say what a round was begun with, as they are written.
 
-ghost use Rattle.std.specs.Prelude.{◌≡◌, ◌++◌, codes, IfOk, IfErr};
+ghost use Rattle.std.specs.Prelude.{◌≡◌, ◌∷◌, ◌++◌, [], map, codes, IfOk, IfErr, IfSome, OnOk, OnErr};
+ghost use Rattle.std.specs.Option.{option_map};
+ghost use Rattle.splices_flat.specs.FileSet.{entries_of};
 ghost use Rattle.dag_main_check.specs.declared.fault.RunFault.TheVariants.{Memory};
 ghost use Rattle.dag_main_files.specs.Beside.{IsFileFault};
+ghost use Rattle.dag_main_files.specs.declared.changes.Change.TheVariants.{Written};
 ghost use Rattle.round_inputs.specs.Begun.{begun_name_of};
+ghost use Rattle.round_inputs.specs.Inputs.{listed_of, rescue_entry, inputs_name_of};
+ghost use Rattle.round_inputs.specs.KeptInputs.{rescue_read, keeps_sums, begun_of_round, keeps_files};
 
 use crate::begun::begun_text;
 use crate::inputs::{Inputs, inputs_of, inputs_text};
 use dag_main_check::RunFault;
-use dag_main_files::{LAST_NUMBER, Place, rescue_path};
+use dag_main_files::{Change, Changes, LAST_NUMBER, Noted, Place, rescue_path};
 use dag_reader::Text;
 use event_journal::FileDisk;
 use event_journal_log::put_bytes;
@@ -27,7 +32,7 @@ const OWNER_ALONE: u32 = 0o600;
 /// The path of the file beside a DAG file that says what its last round was begun with: that of the DAG
 /// file, and `.inputs`.
 pub fn inputs_path(alloc: Global, top: &str) -> Result<Text, AllocError>
-    ensures { IfOk result (λ name. name ≡ top.now ++ codes ".inputs") }
+    ensures { IfOk result (λ name. name ≡ inputs_name_of top.now) }
 {
     Text::joined(alloc, top, ".inputs")
 }
@@ -63,26 +68,25 @@ fn drafted_disk<R: Files<File = File> + AllocGlobal + Copy + Drop>(
 fn write_drafted<R: Files<File = File> + AllocGlobal + Copy + Drop>(
     rt: R,
     place: &Place<'_>,
-    path: &str,
-    text: &[u8],
+    path: &Text,
+    text: &Vec<u8>,
+    changes: &mut Changes,
 ) -> Result<(), RunFault>
-    ensures { IfErr result IsFileFault }
+    ensures refused { IfErr result IsFileFault }
+    ensures changes { OnOk result (changes.new ≡ changes.old ++ (path.now, Written text.now.items) ∷ []) }
+    ensures no_change { OnErr result (changes.new ≡ changes.old) }
 {
-    let mut disk = drafted_disk(rt, place, path)?;
+    let mut disk = drafted_disk(rt, place, path.as_str())?;
     match put_bytes(&mut disk, text) {
-        Ok(()) => Ok(()),
-        Err(_) => Err(RunFault::FileRefused(String::from_str(rt.alloc(), path)?)),
+        Ok(()) => {
+            changes.note(path, Change::Written(Noted::bytes(text)));
+            Ok(())
+        }
+        Err(_) => Err(RunFault::FileRefused(String::from_str(
+            rt.alloc(),
+            path.as_str(),
+        )?)),
     }
-}
-
-/// The path of the rescue file of this number, if it is that of one.
-fn rescue_name(alloc: Global, top: &str, number: u16) -> Result<Option<Text>, RunFault>
-    ensures { IfErr result (λ fault. fault ≡ Memory) }
-{
-    if number < 1 || number > LAST_NUMBER {
-        return Ok(None);
-    }
-    Ok(Some(rescue_path(alloc, top, number)?))
 }
 
 /// What a round of this DAG file was begun with: the rescue file too, of this number, if it read one.
@@ -95,6 +99,8 @@ fn inputs_at(
     rescue: Option<&[u8]>,
 ) -> Result<Inputs, RunFault>
     ensures digest { IfOk result (λ inputs. inputs.digest ≡ digest.now) }
+    ensures files { IfOk result (λ inputs. inputs.files.items
+        ≡ map listed_of (entries_of files.now ++ rescue_entry (rescue_read place.now.top.now used (option_map (λ b. b.now) rescue.entry)))) }
     ensures err { IfErr result (λ fault. fault ≡ Memory) }
 {
     match rescue {
@@ -119,14 +125,18 @@ pub fn write_inputs<R: Files<File = File> + AllocGlobal + Copy + Drop>(
     files: &FileSet,
     used: u16,
     rescue: Option<&[u8]>,
+    changes: &mut Changes,
 ) -> Result<(), RunFault>
-    ensures { IfErr result IsFileFault }
+    ensures refused { IfErr result IsFileFault }
+    ensures changes { OnOk result (changes.new
+        ≡ changes.old ++ keeps_sums place.now.top.now digest.now (entries_of files.now) used (option_map (λ b. b.now) rescue.entry)) }
+    ensures no_change { OnErr result (changes.new ≡ changes.old) }
 {
     let alloc = rt.alloc();
     let inputs = inputs_at(alloc, place, digest, files, used, rescue)?;
     let text = inputs_text(alloc, &inputs)?;
     let path = inputs_path(alloc, place.top)?;
-    write_drafted(rt, place, path.as_str(), text.as_slice())
+    write_drafted(rt, place, &path, &text, changes)
 }
 
 /// How many bytes these files and this rescue file have, at least: those of their paths and their own.
@@ -150,15 +160,17 @@ fn begun_at(
     used: u16,
     rescue: Option<&[u8]>,
 ) -> Result<Option<Vec<u8>>, RunFault>
-    ensures { IfErr result (λ fault. fault ≡ Memory) }
+    ensures text { IfOk result (λ text. IfSome text (λ bytes. bytes.items
+        ≡ begun_of_round place.now.top.now digest.now (entries_of files.now) used (option_map (λ b. b.now) rescue.entry))) }
+    ensures err { IfErr result (λ fault. fault ≡ Memory) }
 {
     if least_size(files, rescue) > MOST_OF_BEGUN {
         return Ok(None);
     }
-    let name = rescue_name(alloc, place.top, used)?;
-    let text = match (&name, rescue) {
-        (Some(name), Some(bytes)) => {
-            begun_text(alloc, digest, files, Some((name.as_str(), bytes)))?
+    let text = match rescue {
+        Some(bytes) if 1 <= used && used <= LAST_NUMBER => {
+            let path = rescue_path(alloc, place.top, used)?;
+            begun_text(alloc, digest, files, Some((path.as_str(), bytes)))?
         }
         _ => begun_text(alloc, digest, files, None)?,
     };
@@ -197,17 +209,22 @@ pub fn write_begun<R: Files<File = File> + AllocGlobal + Copy + Drop>(
     files: &FileSet,
     used: u16,
     rescue: Option<&[u8]>,
+    changes: &mut Changes,
 ) -> Result<bool, RunFault>
-    ensures { IfErr result IsFileFault }
+    ensures refused { IfErr result IsFileFault }
+    ensures changes { IfOk result (λ is_kept. changes.new
+        ≡ changes.old ++ keeps_files is_kept place.now.top.now digest.now (entries_of files.now) used (option_map (λ b. b.now) rescue.entry)) }
+    ensures no_change { OnErr result (changes.new ≡ changes.old) }
 {
     let alloc = rt.alloc();
     let path = begun_path(alloc, place.top)?;
     let Some(text) = begun_at(alloc, place, digest, files, used, rescue)? else {
         let file = place.at(alloc, path.as_str())?;
         let _ = fs::remove_file(&rt, file.as_str());
+        changes.note(&path, Change::Removed);
         return Ok(false);
     };
     make_private(&rt, place, path.as_str())?;
-    write_drafted(rt, place, path.as_str(), text.as_slice())?;
+    write_drafted(rt, place, &path, &text, changes)?;
     Ok(true)
 }

@@ -6,3 +6,4 @@ pub mod Others
 pub mod Faults
 pub mod Refused
 pub mod Answered
+pub mod Changes

@@ -2,17 +2,19 @@
 
 ghost use Rattle.std.specs.Str.{bytes_eq};
 ghost use Rattle.sha2.specs.Sha256.{sha256};
-ghost use Rattle.std.specs.Prelude.{◌≡◌, ◌++◌, ◌≤◌, Some, IfOk, IfErr, OnOk, string_bytes, option_map};
+ghost use Rattle.std.specs.Prelude.{◌≡◌, ◌++◌, ◌≤◌, ℕ, List, Some, IfOk, IfErr, OnOk, OnErr, string_bytes, option_map};
 ghost use Rattle.splices_flat.specs.FileSet.{bytes_of};
 ghost use Rattle.rescue_file.specs.Numbered.{IsFileNumber, rescue_name_of};
 ghost use Rattle.dag_main_check.specs.declared.fault.RunFault.TheVariants.{Memory};
 ghost use Rattle.dag_main_files.specs.Beside.{journal_name_of, IsRefusalOf};
+ghost use Rattle.dag_main_files.specs.Changes.{AreBegun, writes_rescue, under_lock};
 ghost use Rattle.dag_main_files.specs.Folder.{IsReadFrom};
 ghost use Rattle.round_inputs.specs.Inputs.{inputs_name_of, inputs_text_of};
 ghost use Rattle.salvage.specs.Round.{IsRoundLeft};
 ghost use Rattle.salvage.specs.Salvaged.{IsBarePlan, change_line, IsChangeFrom, any_change, AreChanges, report_line};
 ghost use Rattle.salvage.specs.Answered.{IsMadeOfSame, IsMadeOf, HasWrittenNone, IsHeldMade, IsSalvageOf, IsSalvageFrom};
 ghost use Rattle.salvage.specs.Refused.{IsBarePlanFault, IsUnmade, IsNotOwn, IsSalvageFault, old_journal_name_of};
+ghost use Rattle.salvage.specs.Changes.{writes_salvage, SalvagesInPart};
 ghost use Rattle.salvage.specs.Sight.{held_files_if};
 
 use crate::changed::{Made, made_of_changed};
@@ -21,7 +23,8 @@ use crate::rescue::{Salvaged, salvage_text};
 use crate::rounds::{RoundLeft, inputs_with, rescue_as_it_was, round_left};
 use dag_main_check::{Answer, RunFault, graph_of, warning_text};
 use dag_main_files::{
-    Folder, Place, Reading, files_of, journal_path, named, rescue_disk, rescue_path,
+    Change, Changes, Folder, Noted, Place, Reading, files_of, journal_path, named, rescue_disk,
+    rescue_path,
 };
 use dag_reader::Text;
 use event_journal_log::put_bytes;
@@ -141,7 +144,7 @@ fn push_change(text: &mut String, path: &str, change: Option<Change>) -> Result<
 }
 
 /// The lines of the files that are no longer as they were when the round began.
-fn changes<F: Folder>(alloc: Global, folder: &F, inputs: &Inputs) -> Result<String, RunFault>
+fn changes_since<F: Folder>(alloc: Global, folder: &F, inputs: &Inputs) -> Result<String, RunFault>
     ensures changes { IfOk result (λ text. AreChanges any_change inputs.now.files.items (string_bytes text)) }
     ensures held { F.honest folder.now → IfOk result (λ text.
         AreChanges (IsChangeFrom (F.holds folder.now)) inputs.now.files.items (string_bytes text)) }
@@ -185,19 +188,26 @@ pub fn write_rescue<R: Files<File = File> + AllocGlobal + Copy + Drop>(
     rt: R,
     place: &Place<'_>,
     number: u16,
-    text: &str,
+    text: &String,
+    changes: &mut Changes,
 ) -> Result<(), RunFault>
     requires { IsFileNumber number }
-    ensures { IfErr result (IsRefusalOf (rescue_name_of place.now.top.now number)) }
+    ensures refused { IfErr result (IsRefusalOf (rescue_name_of place.now.top.now number)) }
+    ensures changes { OnOk result (changes.new ≡ changes.old ++ writes_rescue place.now.top.now number (string_bytes text.now)) }
+    ensures no_change { OnErr result (changes.new ≡ changes.old) }
 {
     let alloc = rt.alloc();
+    let path = rescue_path(alloc, place.top, number)?;
     let mut disk = rescue_disk(rt, place, number)?;
     match put_bytes(&mut disk, text.as_bytes()) {
-        Ok(()) => Ok(()),
-        Err(_) => {
-            let path = rescue_path(alloc, place.top, number)?;
-            Err(RunFault::FileRefused(String::from_str(alloc, path.as_str())?))
+        Ok(()) => {
+            changes.note(&path, Change::Written(Noted::text(text)));
+            Ok(())
         }
+        Err(_) => Err(RunFault::FileRefused(String::from_str(
+            alloc,
+            path.as_str(),
+        )?)),
     }
 }
 
@@ -312,20 +322,25 @@ fn salvage_locked<R: Files<File = File> + AllocGlobal + Copy + Drop, F: Folder>(
     folder: &F,
     place: &Place<'_>,
     too: bool,
+    changes: &mut Changes,
 ) -> Result<Answer, SalvageFault>
     ensures salvaged { IfOk result (λ answer. IsSalvageOf too place.now.top.now
         (string_bytes answer.text) (string_bytes answer.warnings) answer.status) }
     ensures held { F.honest folder.now → IfOk result (λ answer. IsSalvageFrom too (F.holds folder.now) place.now.top.now
         (string_bytes answer.text) (string_bytes answer.warnings) answer.status) }
     ensures refused { IfErr result (IsSalvageFault too (held_files_if (F.honest folder.now) (F.holds folder.now) (F.has folder.now) place.now.top.now) place.now.top.now) }
+    ensures changes { IfOk result (λ answer. (is : IsSalvageOf too place.now.top.now (string_bytes answer.text) (string_bytes answer.warnings) answer.status)
+        × (F.honest folder.now → IsHeldMade too (F.holds folder.now) place.now.top.now is.next is.listed is.rescue_text is.done is.total (string_bytes answer.warnings) is.made)
+        × (changes.new ≡ changes.old ++ writes_salvage place.now.top.now is.next is.rescue_text)) }
+    ensures begun { OnErr result ((number : ℕ) × (text : List ℕ) × AreBegun (writes_salvage place.now.top.now number text) changes.old changes.new) }
 {
     let alloc = rt.alloc();
     let found = read_round(alloc, folder, place.top, too)?;
-    let changes = changes(alloc, folder, &found.inputs)?;
+    let changed = changes_since(alloc, folder, &found.inputs)?;
     let Found { round, made, .. } = found;
-    let text = report_of(alloc, place, round.next, &made, changes.as_str())?;
-    write_rescue(rt, place, round.next, made.text.as_str())?;
-    place.put_journal_away(&rt)?;
+    let text = report_of(alloc, place, round.next, &made, changed.as_str())?;
+    write_rescue(rt, place, round.next, &made.text, changes)?;
+    place.put_journal_away(&rt, changes)?;
     let Made { warnings, .. } = made;
     Ok(Answer {
         text,
@@ -399,6 +414,7 @@ pub fn salvage_here<R: Files<File = File> + Clock + AllocGlobal + Copy + Drop, F
     place: &Place<'_>,
     too: bool,
     trust_owner: bool,
+    changes: &mut Changes,
 ) -> Result<Answer, SalvageFault>
     ensures salvaged { IfOk result (λ answer. IsSalvageOf too place.now.top.now
         (string_bytes answer.text) (string_bytes answer.warnings) answer.status) }
@@ -406,6 +422,12 @@ pub fn salvage_here<R: Files<File = File> + Clock + AllocGlobal + Copy + Drop, F
     ensures held { F.honest folder.now → IfOk result (λ answer. IsSalvageFrom too (F.holds folder.now) place.now.top.now
         (string_bytes answer.text) (string_bytes answer.warnings) answer.status) }
     ensures refused { IfErr result (IsSalvageFault too (held_files_if (F.honest folder.now) (F.holds folder.now) (F.has folder.now) place.now.top.now) place.now.top.now) }
+    // What it changes: under the lock the rescue file that it reports of is written, and then the journal is put away.
+    ensures changes { IfOk result (λ answer. (is : IsSalvageOf too place.now.top.now (string_bytes answer.text) (string_bytes answer.warnings) answer.status)
+        × (F.honest folder.now → IsHeldMade too (F.holds folder.now) place.now.top.now is.next is.listed is.rescue_text is.done is.total (string_bytes answer.warnings) is.made)
+        × (changes.new ≡ changes.old ++ under_lock place.now.top.now (writes_salvage place.now.top.now is.next is.rescue_text))) }
+    // Where it is refused, the first of these changes at most.
+    ensures begun { OnErr result (SalvagesInPart place.now.top.now changes.old changes.new) }
 {
     let alloc = rt.alloc();
     let journal = journal_path(alloc, place.top)?;
@@ -413,8 +435,8 @@ pub fn salvage_here<R: Files<File = File> + Clock + AllocGlobal + Copy + Drop, F
         return Err(SalvageFault::NoJournal(journal));
     }
     has_own_files(&rt, place, trust_owner)?;
-    let lock = place.lock(&rt)?;
-    let answer = salvage_locked(rt, folder, place, too);
-    place.unlock(&rt, lock);
+    let lock = place.lock(&rt, changes)?;
+    let answer = salvage_locked(rt, folder, place, too, changes);
+    place.unlock(&rt, lock, changes);
     answer
 }

@@ -1,6 +1,7 @@
 use Rattle.dag_main_files.proofs.RunFaults.{by-fault}
 use Rattle.dag_main_check.proofs.Refusals.{weaker}
-use Rattle.std.proofs.Common.{subst}
+use Rattle.std.proofs.Common.{[], sym, subst, append-nil}
+use Rattle.dag_main_run.specs.RunChanges.{not_locked}
 use Rattle.dag_main_run.specs.Runs.{IsFindingFault, IsFindingFaultHeld, IsFirstRunFault, not_ours, not_found_at_first, looked_again}
 use Rattle.dag_main_run.proofs.runs.first_look.Goals as goal
 
@@ -34,4 +35,14 @@ returns-in-Err g c = record {
   rescue = tt;
   refused = not_found_at_first c.in-Err.fault c.in-Err.ensures.refused;
   refused_held = λ honest. not_found_at_first c.in-Err.fault (c.in-Err.ensures.refused_held honest);
+  changes = ([], not_locked, sym (append-nil c.args.changes.now));
 }
+
+pub returns-in_err-has_own_files-clause-changes : goal.returns-in_err-has_own_files-clause-changes
+returns-in_err-has_own_files-clause-changes g c = ([], not_locked, sym (append-nil c.args.changes.now))
+
+pub returns-in-Err-InManager-clause-changes : goal.returns-in-Err-InManager-clause-changes
+returns-in-Err-InManager-clause-changes g c = c.look_locked.ensures.changes
+
+pub returns-in-Ok-clause-changes : goal.returns-in-Ok-clause-changes
+returns-in-Ok-clause-changes g c = ([], not_locked, sym (append-nil c.args.changes.now))

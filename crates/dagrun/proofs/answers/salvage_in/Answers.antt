@@ -7,6 +7,8 @@ use Rattle.dag_main_check.proofs.Refusals.{handed-on, weaker}
 use Rattle.dagrun.specs.Answered.{salvaged}
 use Rattle.salvage.specs.Refused.{IsSalvageFault, making_had_no_memory}
 use Rattle.salvage.proofs.Sights.{fault-of-any, fault-of-held}
+use Rattle.dagrun.specs.Changes.{salvage_written}
+use Rattle.dagrun.proofs.Changes.{salvage-refused, salvage-left}
 use Rattle.dagrun.proofs.Salvages.{line-warned}
 use Rattle.dagrun.proofs.answers.salvage_in.Goals as goal
 
@@ -67,3 +69,13 @@ returns-in_ok-own-in-Err-clause-refused_held g c = λ premise.
     let sight = held_files (g.F.Folder.holds c.args.folder.now) (g.F.Folder.has c.args.folder.now) path in
     weaker (λ fault. IsSalvageFault c.args.ended sight path (Refused fault)) c.not_salvaged.result c.not_salvaged.ensures.err
     (λ fault is. subst (λ (f : RunFault). IsSalvageFault c.args.ended sight path (Refused f)) (sym is) making_had_no_memory)
+
+pub returns-in-Ok-clause-changes : goal.returns-in-Ok-clause-changes
+returns-in-Ok-clause-changes g c = salvage_written _ _ _ c.in-Ok.ensures.changes.0 c.in-Ok.ensures.changes.2
+
+pub returns-in_err-own-in-Err-clause-changes : goal.returns-in_err-own-in-Err-clause-changes
+returns-in_err-own-in-Err-clause-changes g c =
+    salvage-refused _ c.args.dag.now c.args.ended c.from_residual.result c.from_residual.ensures.1 _ _ c.in-Err.ensures.begun
+
+pub returns-in_ok-own-in-Err-clause-changes : goal.returns-in_ok-own-in-Err-clause-changes
+returns-in_ok-own-in-Err-clause-changes g c = salvage-left c.args.dag.now c.args.ended c.not_salvaged.result c.not_salvaged.ensures.status _ _ c.in-Err.ensures.begun

@@ -1,8 +1,9 @@
-use Rattle.std.proofs.Common.{ℕ, List, ◌∙◌, ap, sym, subst}
+use Rattle.std.proofs.Common.{ℕ, List, ◌∙◌, ap, refl, sym, subst}
 use Rattle.std.proofs.lemmas.Result.{IfOk-weaker}
 use Rattle.dag_main_check.specs.declared.fault.RunFault.TheVariants.{Memory}
 use Rattle.dag_main_files.specs.Opened.{changing, fixed}
 use Rattle.dag_main_files.proofs.RunFaults.{by-fault, memory-alone}
+use Rattle.redo.proofs.Changes.{none-told, redo-unchanged, redone-under-lock}
 use Rattle.redo.specs.Answered.{IsNoRedo, kept_out, has_no_round, IsKeptOut, by_other_files, by_another_manager, looking_had_no_memory}
 use Rattle.redo.proofs.here.redo_here.Goals as goal
 
@@ -38,12 +39,12 @@ returns-in_err-has_own_files-clause-refused_held g c = λ honest.
 
 pub returns-in_err-lock-clause-refused : goal.returns-in_err-lock-clause-refused
 returns-in_err-lock-clause-refused g c =
-    by-fault (IsNoRedo changing c.args.place.now.top.now) c.in_err-lock.field-0.0 (kept_out _ (by_another_manager _ c.in_err-lock.ensures))
+    by-fault (IsNoRedo changing c.args.place.now.top.now) c.in_err-lock.field-0.0 (kept_out _ (by_another_manager _ c.in_err-lock.ensures.refused))
     c.from_residual-in_err-lock.result c.from_residual-in_err-lock.ensures.1
 
 pub returns-in_err-lock-clause-refused_held : goal.returns-in_err-lock-clause-refused_held
 returns-in_err-lock-clause-refused_held g c = λ honest.
-    by-fault (IsNoRedo (fixed (g.F.Folder.holds c.args.folder.now)) c.args.place.now.top.now) c.in_err-lock.field-0.0 (kept_out _ (by_another_manager _ c.in_err-lock.ensures))
+    by-fault (IsNoRedo (fixed (g.F.Folder.holds c.args.folder.now)) c.args.place.now.top.now) c.in_err-lock.field-0.0 (kept_out _ (by_another_manager _ c.in_err-lock.ensures.refused))
     c.from_residual-in_err-lock.result c.from_residual-in_err-lock.ensures.1
 
 pub returns-then-not-is_there-clause-redone : goal.returns-then-not-is_there-clause-redone
@@ -61,3 +62,23 @@ returns-then-not-is_there-clause-refused g c =
 pub returns-then-not-is_there-clause-refused_held : goal.returns-then-not-is_there-clause-refused_held
 returns-then-not-is_there-clause-refused_held g c = λ honest.
     memory-alone (IsNoRedo (fixed (g.F.Folder.holds c.args.folder.now)) c.args.place.now.top.now) (kept_out _ looking_had_no_memory) c.no_round.result c.no_round.ensures.err
+
+pub returns-in_err-journal-clause-changes : goal.returns-in_err-journal-clause-changes
+returns-in_err-journal-clause-changes g c = redo-unchanged _ c.args.place.now.top.now c.from_residual.result c.from_residual.ensures.1 c.args.changes.now c.args.changes.now refl
+
+pub returns-in_err-is_there-clause-changes : goal.returns-in_err-is_there-clause-changes
+returns-in_err-is_there-clause-changes g c = redo-unchanged _ c.args.place.now.top.now c.from_residual-in_err-is_there.result c.from_residual-in_err-is_there.ensures.1 c.args.changes.now c.args.changes.now refl
+
+pub returns-in_err-has_own_files-clause-changes : goal.returns-in_err-has_own_files-clause-changes
+returns-in_err-has_own_files-clause-changes g c = redo-unchanged _ c.args.place.now.top.now c.from_residual-in_err-has_own_files.result c.from_residual-in_err-has_own_files.ensures.1 c.args.changes.now c.args.changes.now refl
+
+pub returns-in_err-lock-clause-changes : goal.returns-in_err-lock-clause-changes
+returns-in_err-lock-clause-changes g c = redo-unchanged _ c.args.place.now.top.now c.from_residual-in_err-lock.result c.from_residual-in_err-lock.ensures.1 c.args.changes.now c.lock.new.changes c.in_err-lock.ensures.no_change
+
+pub returns-then-not-is_there-clause-changes : goal.returns-then-not-is_there-clause-changes
+returns-then-not-is_there-clause-changes g c = none-told c.args.place.now.top.now c.no_round.result c.no_round.ensures.answer c.args.changes.now
+
+pub returns-clause-changes : goal.returns-clause-changes
+returns-clause-changes g c =
+    redone-under-lock c.args.place.now.top.now c.redo_locked-answer.result c.args.changes.now c.lock.new.changes c.redo_locked-answer.new.changes c.unlock.new.changes
+    c.in_ok-lock.ensures.changes c.redo_locked-answer.ensures.changes c.unlock.ensures

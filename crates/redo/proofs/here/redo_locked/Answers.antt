@@ -1,4 +1,4 @@
-use Rattle.std.proofs.Common.{ℕ, List, Option, Bor, map, sym, subst, string_bytes}
+use Rattle.std.proofs.Common.{ℕ, List, Option, Bor, map, sym, refl, subst, string_bytes}
 use Rattle.std.specs.Option.{option_map}
 use Rattle.std.proofs.lemmas.Result.{IfOk-weaker}
 use Rattle.node_machine.specs.declared.Record.{Record}
@@ -14,6 +14,8 @@ use Rattle.dag_main_inspect.proofs.Rounds.{refused-of-round, no-memory, of-recor
 use Rattle.redo.specs.declared.here.Found.{Found}
 use Rattle.redo.specs.Numbers.{IsNextNumber}
 use Rattle.redo.specs.Answered.{IsFoundOfNames, IsRedoReport, IsRedoAnswer, IsNotWritten, redone, IsNoRedo, not_answered, not_written}
+use Rattle.redo.specs.Changes.{no_such_node}
+use Rattle.redo.proofs.Changes.{redone-unchanged}
 use Rattle.redo.proofs.Answers.{redone-so, unknown-so}
 use Rattle.redo.proofs.here.redo_locked.Goals as goal
 
@@ -90,3 +92,18 @@ returns-clause-held g c = λ honest.
     c.in_ok-core.core c.in_ok-core.ensures.plan c.in_ok-core.ensures.records c.in_ok-core.ensures.lawful
     (λ (p : Plan) (j : Option (List ℕ)) (past : List Record). IsRedoAnswer (IsNextNumber (these_paths (g.F.Folder.has c.args.folder.now)) c.args.place.now.top.now (journal_bytes j)) p past c.args.place.now.top.now (map (λ (n : Bor (List ℕ)). n.now) c.args.names.now) c.args.only (string_bytes c.new.result) (string_bytes c.in-Unknown.line) 125)
     (unknown-so (these_paths (g.F.Folder.has c.args.folder.now)) c.in_ok-core.core.plan c.in_ok-core.core.past c.args.place.now.top.now (option_map (λ b. b.items) c.in_ok-round.round.journal) (map (λ (n : Bor (List ℕ)). n.now) c.args.names.now) c.args.only c.in-Unknown.line _ c.new.ensures.bytes (subst (IsFoundOfNames c.in_ok-core.core.plan c.in_ok-core.core.past c.args.place.now.top.now (map (λ (n : Bor (List ℕ)). n.now) c.args.names.now) c.args.only) c.in-Unknown.is c.in_ok-found.ensures.found)))
+
+pub returns-in_err-round-clause-changes : goal.returns-in_err-round-clause-changes
+returns-in_err-round-clause-changes g c = redone-unchanged _ c.args.place.now.top.now c.from_residual.result c.from_residual.ensures.1 c.args.changes.now
+
+pub returns-in_err-core-clause-changes : goal.returns-in_err-core-clause-changes
+returns-in_err-core-clause-changes g c = redone-unchanged _ c.args.place.now.top.now c.from_residual-in_err-core.result c.from_residual-in_err-core.ensures.1 c.args.changes.now
+
+pub returns-in_err-found-clause-changes : goal.returns-in_err-found-clause-changes
+returns-in_err-found-clause-changes g c = redone-unchanged _ c.args.place.now.top.now c.from_residual-in_err-found.result c.from_residual-in_err-found.ensures.1 c.args.changes.now
+
+pub returns-in-Marked-clause-changes : goal.returns-in-Marked-clause-changes
+returns-in-Marked-clause-changes g c = c.write_marked.ensures.changes
+
+pub returns-clause-changes : goal.returns-clause-changes
+returns-clause-changes g c = no_such_node _ c.args.changes.now refl

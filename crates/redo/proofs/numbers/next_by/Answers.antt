@@ -1,10 +1,14 @@
-use Rattle.std.proofs.Common.{◌≤◌}
+use Rattle.std.proofs.Common.{◌≤◌, ◌∙◌, sym}
 use Rattle.std.proofs.lemmas.Result.{IfOk-weaker}
 use Rattle.dag_main_check.proofs.Refusals.{weaker}
 use Rattle.dag_main_files.specs.Folder.{IsHighestThere}
 use Rattle.redo.specs.Numbers.{folder_not_seen}
-use Rattle.redo.proofs.Numbered.{in-header, over-is, in-folder, none-in-header}
+use Rattle.redo.proofs.Numbered.{in-header, over-is, cut-short-is, in-folder, none-in-header}
 use Rattle.redo.proofs.numbers.next_by.Goals as goal
+
+pub returns-then-peek-clause-cut_short : goal.returns-then-peek-clause-cut_short
+returns-then-peek-clause-cut_short g c =
+    IfOk-weaker c.next_in_folder.result _ _ (λ next is. λ journal reads. is ∙ sym (over-is journal c.args.peek.now reads c.if-peek.true)) c.next_in_folder.ensures.cut_short
 
 pub returns-then-peek-clause-next : goal.returns-then-peek-clause-next
 returns-then-peek-clause-next g c =
@@ -18,6 +22,10 @@ returns-then-peek-clause-held g c = λ honest.
 
 pub returns-then-peek-clause-refused : goal.returns-then-peek-clause-refused
 returns-then-peek-clause-refused g c = weaker _ c.next_in_folder.result c.next_in_folder.ensures.refused (λ fault why. λ journal reads. folder_not_seen fault why)
+
+pub returns-clause-cut_short : goal.returns-clause-cut_short
+returns-clause-cut_short g c =
+    IfOk-weaker c.next_in_header.result _ _ (λ next is. λ journal reads. is ∙ sym (cut-short-is journal c.args.peek.now reads c.if-peek.false)) c.next_in_header.ensures.cut_short
 
 pub returns-clause-next : goal.returns-clause-next
 returns-clause-next g c =

@@ -1,4 +1,4 @@
-use Rattle.std.proofs.Common.{◌≤◌, Option, subst}
+use Rattle.std.proofs.Common.{◌≤◌, ◌∙◌, Option, sym, subst}
 use Rattle.std.proofs.lemmas.Result.{IfOk-weaker}
 use Rattle.event_journal_log.specs.declared.journal.Peek.{Peek}
 use Rattle.event_journal_log.specs.Image.{replay_of}
@@ -14,6 +14,11 @@ pub returns-in_err-peek-clause-refused : goal.returns-in_err-peek-clause-refused
 returns-in_err-peek-clause-refused g c =
     by-fault (IsNoNextNumber c.args.top.now c.args.journal.now) c.in_err-peek.field-0.0 (journal_unread _ c.in_err-peek.ensures.refused) c.from_residual.result c.from_residual.ensures.1
 
+pub returns-in-Some-clause-cut_short : goal.returns-in-Some-clause-cut_short
+returns-in-Some-clause-cut_short g c =
+    IfOk-weaker c.next_by.result _ _
+    (λ next h. h c.args.journal.now (subst (λ (o : Option Peek). ReadsPeek o (replay_of c.args.journal.now)) c.in-Some.is c.in_ok-peek.ensures.peek)) c.next_by.ensures.cut_short
+
 pub returns-in-Some-clause-next : goal.returns-in-Some-clause-next
 returns-in-Some-clause-next g c =
     IfOk-weaker c.next_by.result _ _
@@ -28,6 +33,12 @@ pub returns-in-Some-clause-refused : goal.returns-in-Some-clause-refused
 returns-in-Some-clause-refused g c =
     weaker _ c.next_by.result c.next_by.ensures.refused
     (λ fault why. why c.args.journal.now (subst (λ (o : Option Peek). ReadsPeek o (replay_of c.args.journal.now)) c.in-Some.is c.in_ok-peek.ensures.peek))
+
+pub returns-in-None-clause-cut_short : goal.returns-in-None-clause-cut_short
+returns-in-None-clause-cut_short g c =
+    IfOk-weaker c.next_in_folder.result _ _
+    (λ next is. is ∙ sym (none-is c.args.journal.now (subst (λ (o : Option Peek). ReadsPeek o (replay_of c.args.journal.now)) c.in-None.is c.in_ok-peek.ensures.peek)))
+    c.next_in_folder.ensures.cut_short
 
 pub returns-in-None-clause-next : goal.returns-in-None-clause-next
 returns-in-None-clause-next g c =

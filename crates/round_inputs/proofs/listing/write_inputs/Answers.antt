@@ -4,12 +4,12 @@ use Rattle.dag_main_files.specs.Beside.{IsFileFault, reading_had_no_memory}
 use Rattle.dag_main_files.proofs.RunFaults.{by-fault}
 use Rattle.round_inputs.proofs.listing.write_inputs.Goals as goal
 
-pub returns-in_err-inputs : goal.returns-in_err-inputs
-returns-in_err-inputs g c = by-fault IsFileFault c.in_err-inputs.field-0.0 (subst IsFileFault (sym c.in_err-inputs.ensures.err) reading_had_no_memory)
+pub returns-in_err-inputs-clause-refused : goal.returns-in_err-inputs-clause-refused
+returns-in_err-inputs-clause-refused g c = by-fault IsFileFault c.in_err-inputs.field-0.0 (subst IsFileFault (sym c.in_err-inputs.ensures.err) reading_had_no_memory)
     c.from_residual.result c.from_residual.ensures.1
 
-pub returns-in_err-text : goal.returns-in_err-text
-returns-in_err-text g c = by-fault IsFileFault Memory reading_had_no_memory c.from_residual-in_err-text.result c.from_residual-in_err-text.ensures.1
+pub returns-in_err-text-clause-refused : goal.returns-in_err-text-clause-refused
+returns-in_err-text-clause-refused g c = by-fault IsFileFault Memory reading_had_no_memory c.from_residual-in_err-text.result c.from_residual-in_err-text.ensures.1
 
-pub returns-in_err-path : goal.returns-in_err-path
-returns-in_err-path g c = by-fault IsFileFault Memory reading_had_no_memory c.from_residual-in_err-path.result c.from_residual-in_err-path.ensures.1
+pub returns-in_err-path-clause-refused : goal.returns-in_err-path-clause-refused
+returns-in_err-path-clause-refused g c = by-fault IsFileFault Memory reading_had_no_memory c.from_residual-in_err-path.result c.from_residual-in_err-path.ensures.1

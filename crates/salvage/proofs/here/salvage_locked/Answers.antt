@@ -5,6 +5,9 @@ use Rattle.salvage.specs.Salvaged.{report_line}
 use Rattle.salvage.specs.declared.fault.SalvageFault.TheVariants.{Refused}
 use Rattle.salvage.specs.Refused.{IsSalvageFault, rescue_not_written, journal_not_put_away, making_had_no_memory}
 use Rattle.salvage.specs.Sight.{held_files_if}
+use Rattle.dag_main_files.specs.Changes.{writes_rescue, puts_journal_away}
+use Rattle.dag_main_files.proofs.Makes.{begun-after, made-after}
+use Rattle.salvage.proofs.SalvageChanges.{HasBegun, on-refusal, none-begun}
 use Rattle.salvage.proofs.Refusals.{told-as}
 use Rattle.salvage.proofs.here.salvage_locked.Goals as goal
 
@@ -18,8 +21,8 @@ returns-clause-salvaged g c =
       done = found.made.done;
       total = found.made.total;
       made = c.in_ok-found.ensures.read.0;
-      changes = string_bytes c.in_ok-changes.changes;
-      are_changes = c.in_ok-changes.ensures.changes;
+      changes = string_bytes c.in_ok-changed.changed;
+      are_changes = c.in_ok-changed.ensures.changes;
       text_is = c.in_ok-text.ensures.text
           ∙ ap (λ (t : List ℕ). report_line found.made.done found.made.total (rescue_name_of c.args.place.now.top.now found.round.next) ++ t) c.as_str.ensures.value;
       status_is = refl;
@@ -36,26 +39,26 @@ returns-clause-held g c = λ honest.
         done = found.made.done;
         total = found.made.total;
         made = c.in_ok-found.ensures.read.0;
-        changes = string_bytes c.in_ok-changes.changes;
-        are_changes = c.in_ok-changes.ensures.changes;
+        changes = string_bytes c.in_ok-changed.changed;
+        are_changes = c.in_ok-changed.ensures.changes;
         text_is = c.in_ok-text.ensures.text
             ∙ ap (λ (t : List ℕ). report_line found.made.done found.made.total (rescue_name_of c.args.place.now.top.now found.round.next) ++ t) c.as_str.ensures.value;
         status_is = refl;
       };
       held = c.in_ok-found.ensures.read.1 honest;
-      changes_held = c.in_ok-changes.ensures.held honest;
+      changes_held = c.in_ok-changed.ensures.held honest;
     }
 
 pub returns-in_err-found-clause-refused : goal.returns-in_err-found-clause-refused
 returns-in_err-found-clause-refused g c =
     told-as (IsSalvageFault c.args.too (held_files_if (g.F.Folder.honest c.args.folder.now) (g.F.Folder.holds c.args.folder.now) (g.F.Folder.has c.args.folder.now) c.args.place.now.top.now) c.args.place.now.top.now) c.in_err-found.field-0.0 c.in_err-found.ensures.refused c.from_residual.result c.from_residual.ensures.1
 
-pub returns-in_err-changes-clause-refused : goal.returns-in_err-changes-clause-refused
-returns-in_err-changes-clause-refused g c =
+pub returns-in_err-changed-clause-refused : goal.returns-in_err-changed-clause-refused
+returns-in_err-changed-clause-refused g c =
     let sight = held_files_if (g.F.Folder.honest c.args.folder.now) (g.F.Folder.holds c.args.folder.now) (g.F.Folder.has c.args.folder.now) c.args.place.now.top.now in
-    told-as (IsSalvageFault c.args.too sight c.args.place.now.top.now) (Refused c.in_err-changes.field-0.0)
-    (subst (λ (f : RunFault). IsSalvageFault c.args.too sight c.args.place.now.top.now (Refused f)) (sym c.in_err-changes.ensures.refused) making_had_no_memory)
-    c.from_residual-in_err-changes.result c.from_residual-in_err-changes.ensures.1
+    told-as (IsSalvageFault c.args.too sight c.args.place.now.top.now) (Refused c.in_err-changed.field-0.0)
+    (subst (λ (f : RunFault). IsSalvageFault c.args.too sight c.args.place.now.top.now (Refused f)) (sym c.in_err-changed.ensures.refused) making_had_no_memory)
+    c.from_residual-in_err-changed.result c.from_residual-in_err-changed.ensures.1
 
 pub returns-in_err-text-clause-refused : goal.returns-in_err-text-clause-refused
 returns-in_err-text-clause-refused g c =
@@ -68,12 +71,70 @@ pub returns-in_err-write_rescue-clause-refused : goal.returns-in_err-write_rescu
 returns-in_err-write_rescue-clause-refused g c =
     let sight = held_files_if (g.F.Folder.honest c.args.folder.now) (g.F.Folder.holds c.args.folder.now) (g.F.Folder.has c.args.folder.now) c.args.place.now.top.now in
     told-as (IsSalvageFault c.args.too sight c.args.place.now.top.now) (Refused c.in_err-write_rescue.field-0.0)
-    (rescue_not_written _ _ _ _ _ _ _ c.in_ok-found.ensures.journal c.in_ok-found.ensures.left c.in_err-write_rescue.ensures)
+    (rescue_not_written _ _ _ _ _ _ _ c.in_ok-found.ensures.journal c.in_ok-found.ensures.left c.in_err-write_rescue.ensures.refused)
     c.from_residual-in_err-write_rescue.result c.from_residual-in_err-write_rescue.ensures.1
 
 pub returns-in_err-put_journal_away-clause-refused : goal.returns-in_err-put_journal_away-clause-refused
 returns-in_err-put_journal_away-clause-refused g c =
     let sight = held_files_if (g.F.Folder.honest c.args.folder.now) (g.F.Folder.holds c.args.folder.now) (g.F.Folder.has c.args.folder.now) c.args.place.now.top.now in
     told-as (IsSalvageFault c.args.too sight c.args.place.now.top.now) (Refused c.in_err-put_journal_away.field-0.0)
-    (journal_not_put_away _ c.in_err-put_journal_away.ensures)
+    (journal_not_put_away _ c.in_err-put_journal_away.ensures.refused)
     c.from_residual-in_err-put_journal_away.result c.from_residual-in_err-put_journal_away.ensures.1
+
+pub returns-in_err-found-clause-begun : goal.returns-in_err-found-clause-begun
+returns-in_err-found-clause-begun g c =
+    on-refusal _ (HasBegun c.args.place.now.top.now c.args.changes.now c.args.changes.now) c.from_residual.result c.from_residual.ensures.1
+    (none-begun c.args.place.now.top.now c.args.changes.now c.args.changes.now refl)
+
+pub returns-in_err-changed-clause-begun : goal.returns-in_err-changed-clause-begun
+returns-in_err-changed-clause-begun g c =
+    on-refusal _ (HasBegun c.args.place.now.top.now c.args.changes.now c.args.changes.now) c.from_residual-in_err-changed.result c.from_residual-in_err-changed.ensures.1
+    (none-begun c.args.place.now.top.now c.args.changes.now c.args.changes.now refl)
+
+pub returns-in_err-text-clause-begun : goal.returns-in_err-text-clause-begun
+returns-in_err-text-clause-begun g c =
+    on-refusal _ (HasBegun c.args.place.now.top.now c.args.changes.now c.args.changes.now) c.from_residual-in_err-text.result c.from_residual-in_err-text.ensures.1
+    (none-begun c.args.place.now.top.now c.args.changes.now c.args.changes.now refl)
+
+pub returns-in_err-write_rescue-clause-begun : goal.returns-in_err-write_rescue-clause-begun
+returns-in_err-write_rescue-clause-begun g c =
+    on-refusal _ (HasBegun c.args.place.now.top.now c.args.changes.now c.write_rescue.new.changes) c.from_residual-in_err-write_rescue.result
+    c.from_residual-in_err-write_rescue.ensures.1
+    (none-begun c.args.place.now.top.now c.args.changes.now c.write_rescue.new.changes c.in_err-write_rescue.ensures.no_change)
+
+pub returns-in_err-put_journal_away-clause-begun : goal.returns-in_err-put_journal_away-clause-begun
+returns-in_err-put_journal_away-clause-begun g c =
+    let top = c.args.place.now.top.now in
+    let number = c.in_ok-found.found.round.next in
+    let text = string_bytes c.in_ok-found.found.made.text in
+    on-refusal _ (HasBegun top c.args.changes.now c.put_journal_away.new.changes) c.from_residual-in_err-put_journal_away.result
+    c.from_residual-in_err-put_journal_away.ensures.1
+    (
+      number,
+      text,
+      begun-after (writes_rescue top number text) (puts_journal_away top) c.args.changes.now c.write_rescue.new.changes c.put_journal_away.new.changes
+          c.in_ok-write_rescue.ensures.changes c.in_err-put_journal_away.ensures.changes,
+    )
+
+pub returns-clause-changes : goal.returns-clause-changes
+returns-clause-changes g c =
+    let top = c.args.place.now.top.now in
+    let found = c.in_ok-found.found in
+    (
+      record {
+          next = found.round.next;
+          listed = found.inputs.files.items;
+          rescue_text = string_bytes found.made.text;
+          done = found.made.done;
+          total = found.made.total;
+          made = c.in_ok-found.ensures.read.0;
+          changes = string_bytes c.in_ok-changed.changed;
+          are_changes = c.in_ok-changed.ensures.changes;
+          text_is = c.in_ok-text.ensures.text
+              ∙ ap (λ (t : List ℕ). report_line found.made.done found.made.total (rescue_name_of c.args.place.now.top.now found.round.next) ++ t) c.as_str.ensures.value;
+          status_is = refl;
+        },
+      c.in_ok-found.ensures.read.1,
+      made-after (writes_rescue top found.round.next (string_bytes found.made.text)) (puts_journal_away top) c.args.changes.now c.write_rescue.new.changes
+          c.put_journal_away.new.changes c.in_ok-write_rescue.ensures.changes c.in_ok-put_journal_away.ensures.changes,
+    )

@@ -1,6 +1,6 @@
 use Rattle.std.proofs.Common.{take, string_bytes}
 use Rattle.salvage.specs.Salvaged.{AreChanges, any_change, IsChangeFrom}
-use Rattle.salvage.proofs.here.changes.Given as goal
+use Rattle.salvage.proofs.here.changes_since.Given as goal
 
 abbrev pub invariant-loop-file : goal.invariant-loop-file
 invariant-loop-file g l =

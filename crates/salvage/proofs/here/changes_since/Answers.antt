@@ -3,7 +3,7 @@ use Rattle.dag_main_check.specs.declared.fault.RunFault.TheVariants.{Memory}
 use Rattle.dag_main_files.proofs.RunFaults.{by-fault}
 use Rattle.salvage.specs.Salvaged.{AreChanges, no_files, any_change, IsChangeFrom}
 use Rattle.salvage.proofs.Changes.{more-changes}
-use Rattle.salvage.proofs.here.changes.Goals as goal
+use Rattle.salvage.proofs.here.changes_since.Goals as goal
 
 pub loop-file-init : goal.loop-file-init
 loop-file-init g c = (
