@@ -22,31 +22,31 @@ abbrev pub MakesAs : {A E B F : Type 0} → Result A E → Result B F → Type 0
 MakesAs result other = (whole before now : List FileChange) → Makes result whole before now → Makes other whole before now
 
 -- where nothing is known of the answer, it is an answer like others, and a refusal begins no more
-pub ok-as-ok : {A E B F : Type 0} (answer : A) (other : B) → MakesAs (Ok {A} {E} answer) (Ok {B} {F} other)
-ok-as-ok answer other whole before now all = all
+pub ok-as-ok : {A B : Type 0} (E F : Type 0) (answer : A) (other : B) → MakesAs {A = A} {E = E} {B = B} {F = F} (Ok answer) (Ok other)
+ok-as-ok E F answer other whole before now all = all
 
-pub any-as-err : {A E B F : Type 0} (result : Result A E) (fault : F) → MakesAs result (Err {B} {F} fault)
-any-as-err result fault whole before now makes = makes-begun result whole before now makes
+pub any-as-err : {A E F : Type 0} (B : Type 0) (result : Result A E) (fault : F) → MakesAs {A = A} {E = E} {B = B} {F = F} result (Err fault)
+any-as-err B result fault whole before now makes = makes-begun result whole before now makes
 
 pub makes-if-refused : {A E B F : Type 0} (Q : F → Type 0) (result : Result A E) (other : Result B F) → IsErrAnd other Q → MakesAs result other
 makes-if-refused Q result (Ok value) bad = absurd bad
-makes-if-refused Q result (Err fault) refused = any-as-err result fault
+makes-if-refused {B = B} Q result (Err fault) refused = any-as-err B result fault
 
 -- a refusal is one for whatever cause
 pub is-refused : {A E : Type 0} (Q : E → Type 0) (result : Result A E) → IsErrAnd result Q → IsErr result
 is-refused Q (Ok value) bad = absurd bad
-is-refused Q (Err fault) refused = tt
+is-refused Q (Err fault) refused = refl
 
 -- the round is known by other words
 round-known : (Found Other : Round → Option (List ℕ) → Type 0) → ((round : Round) (rescue : Option (List ℕ)) → Found round rescue → Other round rescue)
     → (top : List ℕ) (options : RunOptions) (files : FileSet) (round : Round) (rescue : Option (List ℕ)) (plan : Plan)
     → IsRoundTried Found top options files round rescue plan → IsRoundTried Other top options files round rescue plan
-round-known Found Other as top options files round rescue plan is = record {
+round-known Found Other knows top options files round rescue plan is = record {
   graph = is.graph;
   is_graph = is.is_graph;
   by_options = is.by_options;
   rescue_is = is.rescue_is;
-  found = as round rescue is.found;
+  found = knows round rescue is.found;
   planned = is.planned;
 }
 
@@ -55,28 +55,28 @@ pub tried-as : {A E B F : Type 0} (result : Result A E) (other : Result B F) (Fo
     → ((round : Round) (rescue : Option (List ℕ)) → Found round rescue → Other round rescue) → MakesAs result other → (IsErr result → IsErr other)
     → (top : List ℕ) (options : RunOptions) (files : FileSet) (before now : List FileChange)
     → IsTried result Found top options files before now → IsTried other Other top options files before now
-tried-as result other Found Other as makes err top options files before now (only_looked looks refused are same) = only_looked looks (err refused) are same
-tried-as result other Found Other as makes err top options files before now (was_locked looks made round rescue plan are is changes same) =
-    was_locked looks made round rescue plan are (round-known Found Other as top options files round rescue plan is)
+tried-as result other Found Other knows makes err top options files before now (only_looked looks refused are same) = only_looked looks (err refused) are same
+tried-as result other Found Other knows makes err top options files before now (was_locked looks made round rescue plan are is changes same) =
+    was_locked looks made round rescue plan are (round-known Found Other knows top options files round rescue plan is)
     (changes.0, changes.1, makes changes.0 [] made changes.2) same
 
 -- refused tries, whose rounds are known by other words
 pub refused-as : (Found Other : Round → Option (List ℕ) → Type 0) → ((round : Round) (rescue : Option (List ℕ)) → Found round rescue → Other round rescue)
     → (top : List ℕ) (options : RunOptions) (before now : List FileChange) → WereRefused Found top options before now → WereRefused Other top options before now
-refused-as Found Other as top options before now none_refused = none_refused
-refused-as Found Other as top options before now (one_refused files fault mid _ were tried) =
-    one_refused files fault mid now (refused-as Found Other as top options before mid were)
-    (tried-as (Err fault) (Err fault) Found Other as (λ whole b n m. m) (λ e. e) top options files mid now tried)
+refused-as Found Other knows top options before now none_refused = none_refused
+refused-as Found Other knows top options before now (one_refused files fault mid _ were tried) =
+    one_refused files fault mid now (refused-as Found Other knows top options before mid were)
+    (tried-as (Err fault) (Err fault) Found Other knows (λ whole b n m. m) (λ e. e) top options files mid now tried)
 
 -- a run by another result, whose rounds are known by other words
 pub run-as : {A E B F : Type 0} (result : Result A E) (other : Result B F) (Found Other : Round → Option (List ℕ) → Type 0)
     → ((round : Round) (rescue : Option (List ℕ)) → Found round rescue → Other round rescue) → MakesAs result other → (IsErr result → IsErr other)
     → (top : List ℕ) (options : RunOptions) (before now : List FileChange)
     → ChangesAsRun result Found top options before now → ChangesAsRun other Other top options before now
-run-as result other Found Other as makes err top options before now (refused_at_last refused were) =
-    refused_at_last (err refused) (refused-as Found Other as top options before now were)
-run-as result other Found Other as makes err top options before now (tried_at_last files mid were tried) =
-    tried_at_last files mid (refused-as Found Other as top options before mid were) (tried-as result other Found Other as makes err top options files mid now tried)
+run-as result other Found Other knows makes err top options before now (refused_at_last refused were) =
+    refused_at_last (err refused) (refused-as Found Other knows top options before now were)
+run-as result other Found Other knows makes err top options before now (tried_at_last files mid were tried) =
+    tried_at_last files mid (refused-as Found Other knows top options before mid were) (tried-as result other Found Other knows makes err top options files mid now tried)
 
 -- no rescue file is put away
 pub none-higher : (from : ℕ) → AreHigher from []
@@ -135,8 +135,8 @@ module _ (top digest : List ℕ) (files : List (List ℕ × List ℕ)) (rescue :
       whole-of numbers settled [],
       of-parts numbers higher settled are_settled true [] (some-none (keeps round.journal true top digest files round.used rescue)),
       makes-refused Q result refused (whole-of numbers settled []) before now
-      (begun-after (readies top round numbers) (settled ++ ([] ++ leads)) before mid now readied
-      (begun-more settled ([] ++ leads) mid now (begun-all settled mid now made))),
+          (begun-after (readies top round numbers) (settled ++ ([] ++ leads)) before mid now readied
+          (begun-more settled ([] ++ leads) mid now (begun-all settled mid now made))),
     )
 
     -- while what it begins with is kept, and until it is led
@@ -148,9 +148,9 @@ module _ (top digest : List ℕ) (files : List (List ℕ × List ℕ)) (rescue :
       whole-of numbers settled kept,
       of-parts numbers higher settled are_settled is_kept kept are_kept,
       makes-refused Q result refused (whole-of numbers settled kept) before now
-      (begun-after (readies top round numbers) (settled ++ (kept ++ leads)) before mid now readied
-      (begun-after settled (kept ++ leads) mid next now dealt
-      (begun-more kept leads next now (begun-all kept next now made)))),
+          (begun-after (readies top round numbers) (settled ++ (kept ++ leads)) before mid now readied
+          (begun-after settled (kept ++ leads) mid next now dealt
+          (begun-more kept leads next now (begun-all kept next now made)))),
     )
 
   -- it is led, whatever that comes to
@@ -163,8 +163,8 @@ module _ (top digest : List ℕ) (files : List (List ℕ × List ℕ)) (rescue :
     whole-of numbers settled kept,
     of-parts numbers higher settled are_settled is_kept kept are_kept,
     makes-all result (whole-of numbers settled kept) before now
-    (made-after (readies top round numbers) (settled ++ (kept ++ leads)) before mid now readied
-    (made-after settled (kept ++ leads) mid next now dealt (made-after kept leads next last now made led))),
+        (made-after (readies top round numbers) (settled ++ (kept ++ leads)) before mid now readied
+        (made-after settled (kept ++ leads) mid next now dealt (made-after kept leads next last now made led))),
   )
 
 -- a round whose call is handed on, by a result that has begun as much

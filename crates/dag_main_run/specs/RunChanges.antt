@@ -107,7 +107,7 @@ pub data IsTried {A E : Type 0} (result : Result A E) (Found : Round → Option 
 pub data WereRefused (Found : Round → Option (List ℕ) → Type 0) (top : List ℕ) (options : RunOptions) (before : List FileChange) : List FileChange → Type 0 where
   none_refused : WereRefused Found top options before before
   one_refused : (files : FileSet) (fault : RunFault) (mid now : List FileChange) → WereRefused Found top options before mid →
-      IsTried {Answer} {RunFault} (Err fault) Found top options files mid now → WereRefused Found top options before now
+      IsTried {A = Answer} {E = RunFault} (Err fault) Found top options files mid now → WereRefused Found top options before now
 
 -- What `run` changes beside its DAG file: what its tries change, of which the last one may be led to its end.
 pub data ChangesAsRun {A E : Type 0} (result : Result A E) (Found : Round → Option (List ℕ) → Type 0) (top : List ℕ) (options : RunOptions)

@@ -250,9 +250,7 @@ pub(crate) fn settled<
     ensures changes { (settled : List FileChange) × AreSome (settles place.now.top.now) settled × (changes.new ≡ changes.old ++ settled) }
 {
     let mut orphans = orphans;
-    let is_settled = settle(
-        rt, place, plan, round, options, rule, &mut orphans, changes,
-    );
+    let is_settled = settle(rt, place, plan, round, options, rule, &mut orphans, changes);
     let kept = is_settled.and_then(|some_left| kept_of(rt, orphans, some_left));
     match kept {
         Ok(kept) => Ok(kept),

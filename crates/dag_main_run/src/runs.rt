@@ -274,7 +274,7 @@ fn run_on<R: Processes + Files<File = File> + Clock + Screen + AllocGlobal + Cop
         place.now.top.now options.now.limits plan.now round.now (string_bytes report.text) report.status) }
     ensures refused { IfErr result (IsStopFault place.now.top.now options.now round.now (H.own site.now).is_deaf (IsRoundStoppedAt H.Journal.Disk H.Rescue.Disk (H.own site.now) (H.honest site.now)
         (H.holds site.now) place.now.top.now options.now.limits plan.now round.now)) }
-    ensures changes { ChangesAsRound result place.now.top.now plan.now.digest (entries_of inputs.files.now) (option_map (λ b. b.now) inputs.rescue.entry)
+    ensures changes { ChangesAsRound result place.now.top.now plan.now.digest (entries_of inputs.entry.files.now) (option_map (λ b. b.now) inputs.entry.rescue)
         round.now changes.old changes.new }
 {
     if site.is_deaf() {
@@ -336,7 +336,7 @@ fn run_planned<
         place.now.top.now options.now.limits plan.now round.now (string_bytes report.text) report.status) }
     ensures refused { IfErr result (IsStopFault place.now.top.now options.now round.now (H.own site.now).is_deaf (IsRoundStoppedAt H.Journal.Disk H.Rescue.Disk (H.own site.now) (H.honest site.now)
         (H.holds site.now) place.now.top.now options.now.limits plan.now round.now)) }
-    ensures changes { ChangesAsRound result place.now.top.now plan.now.digest (entries_of inputs.files.now) (option_map (λ b. b.now) inputs.rescue.entry)
+    ensures changes { ChangesAsRound result place.now.top.now plan.now.digest (entries_of inputs.entry.files.now) (option_map (λ b. b.now) inputs.entry.rescue)
         round.now changes.old changes.new }
 {
     let rescue = site.rescue_disk(place.top, round.next)?;

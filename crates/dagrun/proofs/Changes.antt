@@ -38,20 +38,20 @@ pub run-of : (result other : Result Answer RunFault) (Found Other : Round → Op
     → ((round : Round) (rescue : Option (List ℕ)) → Found round rescue → Other round rescue) → MakesAs result other → (IsErr result → IsErr other)
     → (top : List ℕ) (options : RunOptions) (before now : List FileChange)
     → ChangesOfRun Found top options result before now → ChangesOfRun Other top options other before now
-run-of result other Found Other as makes err top options before now (only_reported asked same) = only_reported asked same
-run-of result other Found Other as makes err top options before now (ran changes) = ran (run-as result other Found Other as makes err top options before now changes)
+run-of result other Found Other knows makes err top options before now (only_reported asked same) = only_reported asked same
+run-of result other Found Other knows makes err top options before now (ran changes) = ran (run-as result other Found Other knows makes err top options before now changes)
 
 -- what a command changes, known by other words
 pub known-as : (Found Other : Knows) → KnowsAs Found Other → (asked : Asked) (result : Result Answer RunFault) (before now : List FileChange)
     → ChangesAs Found asked result before now → ChangesAs Other asked result before now
-known-as Found Other as (runs path options) result before now changes =
-    run-of result result (Found path options) (Other path options) (as path options) (λ whole b n m. m) (λ e. e) path options before now changes
-known-as Found Other as (salvages path ended trust_owner) result before now changes = changes
-known-as Found Other as (redoes path nodes only trust_owner) result before now changes = changes
-known-as Found Other as (checks path all json hinted) result before now changes = changes
-known-as Found Other as (rehearses path outcomes limits always_post) result before now changes = changes
-known-as Found Other as (views path shown begun trust_owner) result before now changes = changes
-known-as Found Other as (shows page) result before now changes = changes
+known-as Found Other knows (runs path options) result before now changes =
+    run-of result result (Found path options) (Other path options) (knows path options) (λ whole b n m. m) (λ e. e) path options before now changes
+known-as Found Other knows (salvages path ended trust_owner) result before now changes = changes
+known-as Found Other knows (redoes path nodes only trust_owner) result before now changes = changes
+known-as Found Other knows (checks path all json hinted) result before now changes = changes
+known-as Found Other knows (rehearses path outcomes limits always_post) result before now changes = changes
+known-as Found Other knows (views path shown begun trust_owner) result before now changes = changes
+known-as Found Other knows (shows page) result before now changes = changes
 
 -- what is not beside a DAG file is not changed, whatever is known
 pub known-of-input : (Found Other : Knows) (asked : Asked) → is_beside asked ≡ false → (result : Result Answer RunFault) (before now : List FileChange)
@@ -68,7 +68,7 @@ known-of-input Found Other (shows page) isnt result before now changes = changes
 pub nothing-changed : (Q : RunFault → Type 0) (Found : Knows) (asked : Asked) (result : Result Answer RunFault) → IsErrAnd result Q → (before : List FileChange)
     → ChangesAs Found asked result before before
 nothing-changed Q Found asked (Ok answer) refused before = absurd refused
-nothing-changed Q Found (runs path options) (Err fault) refused before = ran (refused_at_last tt none_refused)
+nothing-changed Q Found (runs path options) (Err fault) refused before = ran (refused_at_last refl none_refused)
 nothing-changed Q Found (salvages path ended trust_owner) (Err fault) refused before = salvage_refused fault before before (inl refl)
 nothing-changed Q Found (redoes path nodes only trust_owner) (Err fault) refused before =
     not_locked (not_all_made fault 0 [] false before before (begun-none _ before before refl)) refl
@@ -87,7 +87,7 @@ run-handed-on Q Found top options result other refused before now changes =
 pub run-answered : (Found : Round → Option (List ℕ) → Type 0) (top : List ℕ) (options : RunOptions) (answer other : Answer) (before now : List FileChange)
     → ChangesOfRun Found top options (Ok answer) before now → ChangesOfRun Found top options (Ok other) before now
 run-answered Found top options answer other before now changes =
-    run-of (Ok answer) (Ok other) Found Found (λ round rescue found. found) (ok-as-ok answer other) (λ e. e) top options before now changes
+    run-of (Ok answer) (Ok other) Found Found (λ round rescue found. found) (ok-as-ok RunFault RunFault answer other) (λ e. e) top options before now changes
 
 -- a run that is refused before anything is changed
 pub run-unchanged : (Q : RunFault → Type 0) (Found : Round → Option (List ℕ) → Type 0) (top : List ℕ) (options : RunOptions) (result : Result Answer RunFault)

@@ -30,14 +30,7 @@ pub fn run<
     R: Files<File = File> + Processes + Clock + Screen + Input + AllocGlobal + Copy + Drop,
     H: Host,
     C: Console,
->(
-    rt: &R,
-    host: &H,
-    console: &mut C,
-    words: &[&str],
-    to_terminal: bool,
-    changes: &mut Changes,
-) -> u8
+>(rt: &R, host: &H, console: &mut C, words: &[&str], to_terminal: bool, changes: &mut Changes) -> u8
     // It is that of the reply to what the words ask for, or 125 where they ask for nothing. Where the host is honest, the reply
     // is that of the files that it holds, and a round is led by its disks and children.
     ensures exit { IsExit to_terminal (IsReply (H.honest host.now) (H.is_lost host.now) (H.world host.now)

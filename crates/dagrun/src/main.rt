@@ -178,12 +178,5 @@ fn run_words(rt: &HostRuntime) -> io::Result<u8> {
     let to_terminal = rt.stdout().is_terminal();
     let mut changes = Changes::new();
     let host = SystemHost { rt };
-    Ok(run(
-        rt,
-        &host,
-        &mut console,
-        &words,
-        to_terminal,
-        &mut changes,
-    ))
+    Ok(run(rt, &host, &mut console, &words, to_terminal, &mut changes))
 }

@@ -42,7 +42,7 @@ pub redo-unchanged : (Q : RunFault → Type 0) (top : List ℕ) (result : Result
 redo-unchanged Q top result refused before now same = not_locked (redone-unchanged Q top result refused before) same
 
 -- it is answered that there is no round
-pub none-told : {P Q : Answer → Type 0} (top : List ℕ) (result : Result Answer RunFault) → IfOk result (λ answer. P answer × Q answer × (answer.status ≡ 125))
+pub none-told : (P Q : Answer → Type 0) (top : List ℕ) (result : Result Answer RunFault) → IfOk result (λ answer. P answer × Q answer × (answer.status ≡ 125))
     → (before : List FileChange) → MakesRedo top result before before
-none-told top (Ok answer) told before = not_locked (no_such_node answer before told.2) refl
-none-told top (Err fault) told before = redo-unchanged (λ f. f ≡ fault) top (Err fault) refl before before refl
+none-told P Q top (Ok answer) told before = not_locked (no_such_node answer before told.2) refl
+none-told P Q top (Err fault) told before = redo-unchanged (λ f. f ≡ fault) top (Err fault) refl before before refl

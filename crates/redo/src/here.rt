@@ -196,9 +196,7 @@ fn redo_locked<R: Files<File = File> + AllocGlobal + Copy + Drop, F: Folder>(
     let core = round.core(alloc)?;
     let found = found_in(alloc, &core, place.top, names, only)?;
     match found {
-        Found::Marked(marked) => {
-            write_marked(rt, folder, place, round.bytes(), marked, changes)
-        }
+        Found::Marked(marked) => { write_marked(rt, folder, place, round.bytes(), marked, changes) }
         Found::Unknown(line) => Ok(Answer {
             text: String::new(alloc),
             warnings: line,

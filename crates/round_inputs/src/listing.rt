@@ -82,10 +82,7 @@ fn write_drafted<R: Files<File = File> + AllocGlobal + Copy + Drop>(
             changes.note(path, Change::Written(Noted::bytes(text)));
             Ok(())
         }
-        Err(_) => Err(RunFault::FileRefused(String::from_str(
-            rt.alloc(),
-            path.as_str(),
-        )?)),
+        Err(_) => Err(RunFault::FileRefused(String::from_str(rt.alloc(), path.as_str())?)),
     }
 }
 

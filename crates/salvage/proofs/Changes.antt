@@ -3,9 +3,9 @@ use Rattle.std.proofs.Common.{◌≡◌, ◌∙◌, ◌<◌, ◌+◌, ℕ, List,
 use Rattle.std.proofs.lemmas.List.{take_more}
 use Rattle.salvage.specs.Salvaged.{change_line, AreChanges, one_more}
 use Rattle.round_inputs.specs.declared.inputs.Listed.{Listed}
-use Rattle.salvage.specs.declared.here.Change.{Change}
+use Rattle.salvage.specs.declared.here.Difference.{Difference}
 
-pub more-changes : (IsOf : Listed → Option Change → Type 0) (files lent : List Listed) → lent ≡ files → (i : ℕ) (text new path : List ℕ) (file : Listed) (change : Option Change)
+pub more-changes : (IsOf : Listed → Option Difference → Type 0) (files lent : List Listed) → lent ≡ files → (i : ℕ) (text new path : List ℕ) (file : Listed) (change : Option Difference)
     → i < length lent → file ≡ get_or lent i file → AreChanges IsOf (take i files) text → IsOf file change → path ≡ file.path → new ≡ text ++ change_line path change
     → AreChanges IsOf (take (i + 1) files) new
 more-changes IsOf files lent same i text new path file change less is so_far of path_is new_is =

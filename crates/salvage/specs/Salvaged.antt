@@ -18,8 +18,8 @@ use Rattle.recovery_manager.specs.Rescue.{marks_of, rescue_text_for}
 use Rattle.dag_main_check.specs.Planned.{IsGraphOf}
 use Rattle.salvage.specs.Round.{IsRoundLeft, IsSame, IsSameRescue}
 use Rattle.round_inputs.specs.declared.inputs.Listed.{Listed}
-use Rattle.salvage.specs.declared.here.Change.{Change}
-use Rattle.salvage.specs.declared.here.Change.TheVariants.{Other, Missing}
+use Rattle.salvage.specs.declared.here.Difference.{Difference}
+use Rattle.salvage.specs.declared.here.Difference.TheVariants.{Other, Missing}
 
 -- the records that reading gives, the oldest first; none of a place where no journal was begun
 abbrev pub IsReplayOf : Result (Option Found) JournalFault → List Record → Type 0
@@ -43,28 +43,28 @@ pub record IsBarePlan (always_post : Bool) (files : Files) (path : List ℕ) (re
   pub made : plan_at always_post graph None rescue (digest_of graph.dag.top [] rescue) ≡ Ok plan
 
 -- `changed since the round began: PATH`, or `missing`; no line where the file is as it was
-abbrev pub change_line : List ℕ → Option Change → List ℕ
+abbrev pub change_line : List ℕ → Option Difference → List ℕ
 change_line path None = []
 change_line path (Some Other) = codes "changed since the round began: " ++ (path ++ codes "\n")
 change_line path (Some Missing) = codes "missing since the round began: " ++ (path ++ codes "\n")
 
 -- how a file differs from these bytes at its path, if it does: none are there, or they have another sum
-abbrev pub change_from : List ℕ → Option (List ℕ) → Option Change
+abbrev pub change_from : List ℕ → Option (List ℕ) → Option Difference
 change_from sum None = Some Missing
 change_from sum (Some bytes) = if bytes_eq (sha256 bytes) sum then None else Some Other
 
 -- a file differs so from the one that is held at its path; or the system refuses that one
-abbrev pub IsChangeFrom : Files → Listed → Option Change → Type 0
+abbrev pub IsChangeFrom : Files → Listed → Option Difference → Type 0
 IsChangeFrom holds file change = (change ≡ change_from file.sum (holds file.path)) ⊎ (change ≡ Some Other)
 
 -- the lines of files, each with a change for which this holds
-pub data AreChanges (IsOf : Listed → Option Change → Type 0) : List Listed → List ℕ → Type 0 where
+pub data AreChanges (IsOf : Listed → Option Difference → Type 0) : List Listed → List ℕ → Type 0 where
   no_files : AreChanges IsOf [] []
-  one_more : (files : List Listed) (text : List ℕ) (file : Listed) (change : Option Change) → AreChanges IsOf files text → IsOf file change →
+  one_more : (files : List Listed) (text : List ℕ) (file : Listed) (change : Option Difference) → AreChanges IsOf files text → IsOf file change →
       AreChanges IsOf (files ++ file ∷ []) (text ++ change_line file.path change)
 
 -- each is as it was, is changed or is missing
-abbrev pub any_change : Listed → Option Change → Type 0
+abbrev pub any_change : Listed → Option Difference → Type 0
 any_change file change = Unit {0}
 
 -- `N of M nodes are done: NAME`

@@ -95,7 +95,7 @@ fn made_of_same(
 
 /// How a file differs from what the round was begun with, if it does.
 #[derive(Clone, Copy, PartialEq, Eq)]
-enum Change {
+enum Difference {
     /// It has other bytes, or can't be read.
     Other,
     /// It is missing.
@@ -115,30 +115,30 @@ fn change_of<F: Folder>(
     alloc: Global,
     folder: &F,
     file: &Listed,
-) -> Result<Option<Change>, RunFault>
+) -> Result<Option<Difference>, RunFault>
     ensures held { F.honest folder.now → IfOk result (IsChangeFrom (F.holds folder.now) file.now) }
     ensures refused { IfErr result (λ fault. fault ≡ Memory) }
 {
     let path = file.path.as_str();
     let Some(bytes) = folder.input(alloc, path)? else {
         if folder.is_there(alloc, path)? {
-            return Ok(Some(Change::Other));
+            return Ok(Some(Difference::Other));
         }
-        return Ok(Some(Change::Missing));
+        return Ok(Some(Difference::Missing));
     };
     if is_sum(bytes.as_slice(), &file.sum) {
         return Ok(None);
     }
-    Ok(Some(Change::Other))
+    Ok(Some(Difference::Other))
 }
 
 /// Adds the line of a file, if it is changed.
-fn push_change(text: &mut String, path: &str, change: Option<Change>) -> Result<(), AllocError>
+fn push_change(text: &mut String, path: &str, change: Option<Difference>) -> Result<(), AllocError>
     ensures { OnOk result (string_bytes text.new ≡ string_bytes text.old ++ change_line path.now change) }
 {
     match change {
-        Some(Change::Other) => writeln!(text, "changed since the round began: {path}"),
-        Some(Change::Missing) => writeln!(text, "missing since the round began: {path}"),
+        Some(Difference::Other) => writeln!(text, "changed since the round began: {path}"),
+        Some(Difference::Missing) => writeln!(text, "missing since the round began: {path}"),
         None => Ok(()),
     }
 }
@@ -204,10 +204,7 @@ pub fn write_rescue<R: Files<File = File> + AllocGlobal + Copy + Drop>(
             changes.note(&path, Change::Written(Noted::text(text)));
             Ok(())
         }
-        Err(_) => Err(RunFault::FileRefused(String::from_str(
-            alloc,
-            path.as_str(),
-        )?)),
+        Err(_) => Err(RunFault::FileRefused(String::from_str(alloc, path.as_str())?)),
     }
 }
 

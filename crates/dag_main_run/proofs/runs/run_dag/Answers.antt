@@ -1,4 +1,4 @@
-use Rattle.std.proofs.Common.{sym, subst}
+use Rattle.std.proofs.Common.{rules, refl, sym, subst}
 use Rattle.dag_main_files.proofs.RunFaults.{by-fault}
 use Rattle.dag_main_run.specs.Runs.{any_round, held_round, IsRunFault, IsRunFaultFrom, no_memory}
 use Rattle.dag_main_run.specs.RunChanges.{none_refused, one_refused, refused_at_last, tried_at_last}
@@ -53,4 +53,13 @@ returns-in_err-read_missing-in-Err-clause-changes g c =
     (one_refused c.loop.files c.in-Err.fault c.loop.changes c.run_files.new.changes c.loop.invariant.1 c.in-Err.ensures.changes)
 
 pub returns-clause-changes : goal.returns-clause-changes
-returns-clause-changes g c = refused_at_last tt c.loop.invariant.1
+returns-clause-changes g c = refused_at_last refl c.loop.invariant.1
+
+pub loop-init : goal.loop-init
+loop-init g c = (search rules, none_refused)
+
+pub loop-preserved : goal.loop-preserved
+loop-preserved g c = (
+  search rules,
+  one_refused c.loop.files c.in-Err.fault c.loop.changes c.run_files.new.changes c.loop.invariant.1 c.in-Err.ensures.changes,
+)

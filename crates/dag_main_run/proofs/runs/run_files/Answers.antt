@@ -84,23 +84,23 @@ pub returns-in_err-graph-clause-changes : goal.returns-in_err-graph-clause-chang
 returns-in_err-graph-clause-changes g c = only_looked [] (is-refused _ c.from_residual.result c.from_residual.ensures.1) not_locked (sym (append-nil c.args.changes.now))
 
 pub returns-in_err-found-clause-changes : goal.returns-in_err-found-clause-changes
-returns-in_err-found-clause-changes g c = 
+returns-in_err-found-clause-changes g c =
     let looks = c.in_err-found.ensures.changes in only_looked looks.0 (is-refused _ c.from_residual-in_err-found.result c.from_residual-in_err-found.ensures.1) looks.1 looks.2
 
 pub returns-in_err-plan-clause-changes : goal.returns-in_err-plan-clause-changes
-returns-in_err-plan-clause-changes g c = 
+returns-in_err-plan-clause-changes g c =
     let looks = c.in_ok-found.ensures.changes in only_looked looks.0 (is-refused _ c.from_residual-in_err-plan.result c.from_residual-in_err-plan.ensures.1) looks.1 looks.2
 
 pub returns-in_err-launcher-clause-changes : goal.returns-in_err-launcher-clause-changes
-returns-in_err-launcher-clause-changes g c = 
+returns-in_err-launcher-clause-changes g c =
     let looks = c.in_ok-found.ensures.changes in only_looked looks.0 (is-refused _ c.from_residual-in_err-launcher.result c.from_residual-in_err-launcher.ensures.1) looks.1 looks.2
 
 pub returns-in_err-has_room_for_names-clause-changes : goal.returns-in_err-has_room_for_names-clause-changes
-returns-in_err-has_room_for_names-clause-changes g c = 
+returns-in_err-has_room_for_names-clause-changes g c =
     let looks = c.in_ok-found.ensures.changes in only_looked looks.0 (is-refused _ c.from_residual-in_err-has_room_for_names.result c.from_residual-in_err-has_room_for_names.ensures.1) looks.1 looks.2
 
 pub returns-in_err-lock-clause-changes : goal.returns-in_err-lock-clause-changes
-returns-in_err-lock-clause-changes g c = 
+returns-in_err-lock-clause-changes g c =
     let looks = c.in_ok-found.ensures.changes in
     only_looked looks.0 (is-refused _ c.from_residual-in_err-lock.result c.from_residual-in_err-lock.ensures.1) looks.1 (c.in_err-lock.ensures.no_change ∙ looks.2)
 

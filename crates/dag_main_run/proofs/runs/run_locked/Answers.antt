@@ -2,9 +2,10 @@ use Rattle.std.proofs.Common.{◌≡◌, ◌∙◌, ℕ, List, Option, Ok, Err, 
 use Rattle.std.specs.Option.{option_map}
 use Rattle.splices_flat.specs.FileSet.{entries_of}
 use Rattle.dag_main_check.specs.declared.fault.RunFault.{RunFault}
+use Rattle.dag_main_check.specs.declared.warnings.Answer.{Answer}
 use Rattle.dag_main_run.specs.declared.runs.Report.{Report}
 use Rattle.dag_main_run.specs.RunChanges.{ChangesAsRound}
-use Rattle.dag_main_run.proofs.RunChanges.{round-unchanged, round-as, makes-if-refused, ok-as-ok}
+use Rattle.dag_main_run.proofs.RunChanges.{round-unchanged, round-as, makes-if-refused}
 use Rattle.splices_flat.specs.Dag.{Dag}
 use Rattle.dag_graph.specs.Graph.{Network}
 use Rattle.dag_main_check.specs.Warnings.{warning_lines}
@@ -73,19 +74,18 @@ returns-in_err-warnings-clause-changes g c =
 pub returns-then-not-is_same-clause-changes : goal.returns-then-not-is_same-clause-changes
 returns-then-not-is_same-clause-changes g c =
     round-unchanged c.args.place.now.top.now c.args.plan.now.digest (entries_of c.args.files.now) (option_map (λ b. b.items) c.args.found.now.1) c.args.found.now.0
-    (λ (fault : RunFault). fault ≡ c.taken.result) (Err c.taken.result) refl c.args.changes.now c.args.changes.now refl
+    {A = Answer} (λ (fault : RunFault). fault ≡ c.taken.result) (Err c.taken.result) refl c.args.changes.now c.args.changes.now refl
 
 pub returns-in_err-report-clause-changes : goal.returns-in_err-report-clause-changes
 returns-in_err-report-clause-changes g c =
-    round-as (Err {Report} c.in_err-report.field-0.0) c.from_residual-in_err-report.result
-    (makes-if-refused _ (Err {Report} c.in_err-report.field-0.0) c.from_residual-in_err-report.result c.from_residual-in_err-report.ensures.1)
+    round-as {A = Report} {E = RunFault} (Err c.in_err-report.field-0.0) c.from_residual-in_err-report.result
+    (makes-if-refused {A = Report} {E = RunFault} _ (Err c.in_err-report.field-0.0) c.from_residual-in_err-report.result c.from_residual-in_err-report.ensures.1)
     c.args.place.now.top.now c.args.plan.now.digest (entries_of c.args.files.now) (option_map (λ b. b.items) c.args.found.now.1) c.args.found.now.0 c.args.changes.now c.run_planned.new.changes
-    (subst (λ (rescue : Option (List ℕ)). ChangesAsRound (Err {Report} c.in_err-report.field-0.0) c.args.place.now.top.now c.args.plan.now.digest (entries_of c.args.files.now) rescue
+    (subst (λ (rescue : Option (List ℕ)). ChangesAsRound {A = Report} {E = RunFault} (Err c.in_err-report.field-0.0) c.args.place.now.top.now c.args.plan.now.digest (entries_of c.args.files.now) rescue
     c.args.found.now.0 c.args.changes.now c.run_planned.new.changes) c.as_deref.ensures.value c.in_err-report.ensures.changes)
 
 pub returns-clause-changes : goal.returns-clause-changes
 returns-clause-changes g c =
-    round-as (Ok c.in_ok-report.report) (Ok _) (ok-as-ok c.in_ok-report.report _)
-    c.args.place.now.top.now c.args.plan.now.digest (entries_of c.args.files.now) (option_map (λ b. b.items) c.args.found.now.1) c.args.found.now.0 c.args.changes.now c.run_planned.new.changes
-    (subst (λ (rescue : Option (List ℕ)). ChangesAsRound (Ok c.in_ok-report.report) c.args.place.now.top.now c.args.plan.now.digest (entries_of c.args.files.now) rescue
-    c.args.found.now.0 c.args.changes.now c.run_planned.new.changes) c.as_deref.ensures.value c.in_ok-report.ensures.changes)
+    let changes = subst (λ (rescue : Option (List ℕ)). ChangesAsRound {A = Report} {E = RunFault} (Ok c.in_ok-report.report) c.args.place.now.top.now c.args.plan.now.digest
+    (entries_of c.args.files.now) rescue c.args.found.now.0 c.args.changes.now c.run_planned.new.changes) c.as_deref.ensures.value c.in_ok-report.ensures.changes in
+    (changes.0, changes.1, changes.2)

@@ -76,7 +76,7 @@ pub returns-in_err-lock-clause-changes : goal.returns-in_err-lock-clause-changes
 returns-in_err-lock-clause-changes g c = redo-unchanged _ c.args.place.now.top.now c.from_residual-in_err-lock.result c.from_residual-in_err-lock.ensures.1 c.args.changes.now c.lock.new.changes c.in_err-lock.ensures.no_change
 
 pub returns-then-not-is_there-clause-changes : goal.returns-then-not-is_there-clause-changes
-returns-then-not-is_there-clause-changes g c = none-told c.args.place.now.top.now c.no_round.result c.no_round.ensures.answer c.args.changes.now
+returns-then-not-is_there-clause-changes g c = none-told _ _ c.args.place.now.top.now c.no_round.result c.no_round.ensures.answer c.args.changes.now
 
 pub returns-clause-changes : goal.returns-clause-changes
 returns-clause-changes g c =

@@ -82,9 +82,17 @@ returns-clause-exact g c =
     let number = c.in_ok-next.next.number in
     let text = string_bytes c.args.marked.redone.text in
     let made = made-after (writes_rescue top number text) (clears_cut_short c.in_ok-next.next.cut_short top) c.args.changes.now c.write_rescue.new.changes
-        c.clear_cut_short.new.changes c.in_ok-write_rescue.ensures.changes c.in_ok-clear_cut_short.ensures.changes in
-    (
+    c.clear_cut_short.new.changes c.in_ok-write_rescue.ensures.changes c.in_ok-clear_cut_short.ensures.changes in (
       number,
       c.in_ok-next.ensures.next,
       subst (λ (b : Bool). c.clear_cut_short.new.changes ≡ c.args.changes.now ++ writes_redone top number text b) c.in_ok-next.ensures.cut_short made,
     )
+
+pub returns-clause-report : goal.returns-clause-report
+returns-clause-report g c = record {
+  number = c.in_ok-next.next.number;
+  next = c.in_ok-next.ensures.next;
+  text_is = c.in_ok-text.ensures.text;
+  warnings_are = refl;
+  status_is = refl;
+}

@@ -108,8 +108,7 @@ returns-in_err-put_journal_away-clause-begun g c =
     let number = c.in_ok-found.found.round.next in
     let text = string_bytes c.in_ok-found.found.made.text in
     on-refusal _ (HasBegun top c.args.changes.now c.put_journal_away.new.changes) c.from_residual-in_err-put_journal_away.result
-    c.from_residual-in_err-put_journal_away.ensures.1
-    (
+    c.from_residual-in_err-put_journal_away.ensures.1 (
       number,
       text,
       begun-after (writes_rescue top number text) (puts_journal_away top) c.args.changes.now c.write_rescue.new.changes c.put_journal_away.new.changes
@@ -119,21 +118,20 @@ returns-in_err-put_journal_away-clause-begun g c =
 pub returns-clause-changes : goal.returns-clause-changes
 returns-clause-changes g c =
     let top = c.args.place.now.top.now in
-    let found = c.in_ok-found.found in
-    (
+    let found = c.in_ok-found.found in (
       record {
-          next = found.round.next;
-          listed = found.inputs.files.items;
-          rescue_text = string_bytes found.made.text;
-          done = found.made.done;
-          total = found.made.total;
-          made = c.in_ok-found.ensures.read.0;
-          changes = string_bytes c.in_ok-changed.changed;
-          are_changes = c.in_ok-changed.ensures.changes;
-          text_is = c.in_ok-text.ensures.text
-              ∙ ap (λ (t : List ℕ). report_line found.made.done found.made.total (rescue_name_of c.args.place.now.top.now found.round.next) ++ t) c.as_str.ensures.value;
-          status_is = refl;
-        },
+        next = found.round.next;
+        listed = found.inputs.files.items;
+        rescue_text = string_bytes found.made.text;
+        done = found.made.done;
+        total = found.made.total;
+        made = c.in_ok-found.ensures.read.0;
+        changes = string_bytes c.in_ok-changed.changed;
+        are_changes = c.in_ok-changed.ensures.changes;
+        text_is = c.in_ok-text.ensures.text
+            ∙ ap (λ (t : List ℕ). report_line found.made.done found.made.total (rescue_name_of c.args.place.now.top.now found.round.next) ++ t) c.as_str.ensures.value;
+        status_is = refl;
+      },
       c.in_ok-found.ensures.read.1,
       made-after (writes_rescue top found.round.next (string_bytes found.made.text)) (puts_journal_away top) c.args.changes.now c.write_rescue.new.changes
           c.put_journal_away.new.changes c.in_ok-write_rescue.ensures.changes c.in_ok-put_journal_away.ensures.changes,
