@@ -12,7 +12,7 @@ use Rattle.dag_main_check.specs.declared.fault.RunFault.TheVariants.{Memory}
 use Rattle.dag_main_check.proofs.HeldFiles.{bare-held, graph-refused, planned-held, planned-refused}
 use Rattle.dag_main_files.specs.Beside.{IsRefusalOf, path_refused, refusing_had_no_memory, IsRefusalHeld, unheld_refused, refusing_unheld_had_no_memory}
 use Rattle.dag_main_files.specs.Folder.{IsReadFrom}
-use Rattle.dag_main_files.specs.Opened.{IsStill, still_missing, asking_had_no_memory, Holding, changing, fixed, IsReadAs, IsUnreadable, IsOfFiles, IsRefusedFor, top_not_read, for_files, HasBarePlan, HasNoGraph, HasPlan, HasNoPlan}
+use Rattle.dag_main_files.specs.Opened.{IsStill, still_missing, asking_had_no_memory, Holding, changing, fixed, IsReadAs, IsUnreadable, IsOfFiles, IsRefusedFor, for_files, HasBarePlan, HasNoGraph, HasPlan, HasNoPlan}
 
 -- a set is read where it is itself what is held
 pub own-files : (set : FileSet) (path : List ℕ) → IsReadFrom (bytes_of set) path set

@@ -1,5 +1,5 @@
 -- What a run changes, by another result, and by what else is known of its round.
-use Rattle.std.proofs.Common.{◌≡◌, ◌≢◌, ◌∙◌, ◌<◌, ℕ, Bool, true, List, [], ◌∷◌, ◌++◌, Option, Result, Ok, Err, arith, refl, sym, ap, append-nil}
+use Rattle.std.proofs.Common.{◌≡◌, ◌≢◌, ◌∙◌, ◌<◌, ℕ, Bool, true, List, [], ◌∷◌, ◌++◌, Option, Result, Ok, Err, arith, refl, sym, append-nil}
 use Rattle.std.specs.Prelude.{IsErr, IsErrAnd, OnOk, OnErr}
 use Rattle.std.proofs.lemmas.List.Elements.{All-nil}
 use Rattle.rescue_file.specs.Numbered.{IsFileNumber}
@@ -13,7 +13,7 @@ use Rattle.dag_main_files.specs.declared.rounds.Journaled.TheVariants.{Nothing, 
 use Rattle.dag_main_files.specs.declared.rounds.Round.{Round}
 use Rattle.dag_main_files.specs.Beside.{journal_name_of}
 use Rattle.round_inputs.specs.KeptInputs.{keeps_sums, keeps_files}
-use Rattle.dag_main_files.specs.Changes.{FileChange, AreBegun, Makes, AreSome, AreHigher, locks, unlocks, under_lock}
+use Rattle.dag_main_files.specs.Changes.{FileChange, AreBegun, Makes, AreSome, AreHigher, locks, unlocks}
 use Rattle.dag_main_files.proofs.Makes.{begun-none, begun-all, begun-more, begun-after, made-after, makes-all, makes-begun, makes-refused, some-all, some-none}
 use Rattle.dag_main_run.specs.RunChanges.{makes_journal, readies, settles, keeps, leads, AreOfRound, ChangesAsRound, AreLooks, IsRoundTried, IsTried, only_looked, was_locked, WereRefused, none_refused, one_refused, ChangesAsRun, refused_at_last, tried_at_last}
 

@@ -7,7 +7,6 @@ use Rattle.dag_main_files.specs.Folder.{Paths}
 use Rattle.dag_main_inspect.specs.Statused.{journal_bytes}
 use Rattle.salvage.specs.Salvaged.{report_line}
 use Rattle.redo.specs.declared.here.Marked.{Marked}
-use Rattle.redo.specs.declared.here.Found.{Found}
 use Rattle.redo.specs.declared.here.Found.TheVariants as found
 use Rattle.redo.specs.Numbers.{IsNextNumber}
 use Rattle.redo.specs.Answered.{IsFoundOfNames, IsRedoReport, IsRedoAnswer, stays_done_so, unknown_name}

@@ -1,9 +1,9 @@
 -- What `redo` changes.
-use Rattle.std.proofs.Common.{◌≡◌, ◌∙◌, ℕ, Bool, false, List, [], ◌++◌, Result, Ok, Err, refl, sym, append-nil}
+use Rattle.std.proofs.Common.{◌≡◌, ℕ, Bool, false, List, [], ◌++◌, Result, Ok, Err, refl, sym, append-nil}
 use Rattle.std.specs.Prelude.{IsErrAnd, IfOk}
 use Rattle.dag_main_check.specs.declared.fault.RunFault.{RunFault}
 use Rattle.dag_main_check.specs.declared.warnings.Answer.{Answer}
-use Rattle.dag_main_files.specs.Changes.{FileChange, AreBegun, locks, unlocks, under_lock}
+use Rattle.dag_main_files.specs.Changes.{FileChange, AreBegun, locks, unlocks}
 use Rattle.dag_main_files.proofs.Makes.{begun-none, made-after}
 use Rattle.redo.specs.Changes.{writes_redone, MakesRedone, redone, no_such_node, not_all_made, MakesRedo, under_its_lock, not_locked}
 

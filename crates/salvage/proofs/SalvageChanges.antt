@@ -1,5 +1,5 @@
 -- What `salvage` changes.
-use Rattle.std.proofs.Common.{◌≡◌, ◌∙◌, ℕ, List, [], ◌++◌, Result, Ok, Err, inl, inr, refl}
+use Rattle.std.proofs.Common.{◌≡◌, ℕ, List, [], ◌++◌, Result, Ok, Err, inr, refl}
 use Rattle.std.specs.Prelude.{IsErrAnd, OnErr}
 use Rattle.dag_main_files.specs.Changes.{FileChange, AreBegun, locks, unlocks, under_lock}
 use Rattle.dag_main_files.proofs.Makes.{begun-none, made-after}

@@ -1,4 +1,4 @@
-use Rattle.std.proofs.Common.{◌∙◌, Bool, true, [], ℕ, List, Bor, sym, append-nil}
+use Rattle.std.proofs.Common.{◌∙◌, true, [], ℕ, List, Bor, sym, append-nil}
 use Rattle.std.specs.Option.{option_map}
 use Rattle.splices_flat.specs.FileSet.{entries_of}
 use Rattle.round_inputs.specs.KeptInputs.{keeps_files}

@@ -1,8 +1,6 @@
-use Rattle.std.proofs.Common.{◌≡◌, ◌++◌, Bool, true, [], ℕ, List, Bor, sym, subst, append-nil}
+use Rattle.std.proofs.Common.{true, [], ℕ, List, Bor, sym, append-nil}
 use Rattle.std.specs.Option.{option_map}
 use Rattle.splices_flat.specs.FileSet.{entries_of}
-use Rattle.dag_main_files.specs.declared.rounds.Journaled.{Journaled}
-use Rattle.dag_main_files.specs.Changes.{FileChange, AreSome}
 use Rattle.dag_main_files.proofs.Makes.{some-none}
 use Rattle.dag_main_run.specs.RunChanges.{keeps}
 use Rattle.dag_main_run.proofs.beginning.keep_inputs.Goals as goal

@@ -1,4 +1,4 @@
-use Rattle.std.proofs.Common.{◌≡◌, ◌∙◌, ◌∷◌, ◌++◌, [], ℕ, List, ap, refl}
+use Rattle.std.proofs.Common.{◌∙◌, ◌∷◌, ◌++◌, [], ℕ, List, ap, refl}
 use Rattle.dag_main_files.specs.declared.changes.Change.TheVariants.{Settled}
 use Rattle.dag_main_files.proofs.Makes.{some-all}
 use Rattle.dag_main_run.specs.RunChanges.{settles}

@@ -1,4 +1,4 @@
-use Rattle.std.proofs.Common.{◌≡◌, ◌∙◌, ◌++◌, [], sym, append-nil}
+use Rattle.std.proofs.Common.{◌∙◌, ◌++◌, [], sym, append-nil}
 use Rattle.dag_main_files.proofs.RunFaults.{by-fault}
 use Rattle.dag_main_check.proofs.Refusals.{weaker}
 use Rattle.dag_main_files.specs.Changes.{locks, unlocks}

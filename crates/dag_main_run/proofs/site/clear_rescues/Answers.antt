@@ -1,6 +1,6 @@
-use Rattle.std.proofs.Common.{◌≡◌, ◌∙◌, ◌++◌, ℕ, Bool, List, [], refl, sym, subst, append-nil}
+use Rattle.std.proofs.Common.{◌≡◌, ◌++◌, Bool, [], sym, subst, append-nil}
 use Rattle.dag_main_check.proofs.Refusals.{weaker}
-use Rattle.dag_main_files.specs.Changes.{FileChange, Makes}
+use Rattle.dag_main_files.specs.Changes.{Makes}
 use Rattle.dag_main_run.specs.InTheWay.{IsReadyFault, rescues_stay}
 use Rattle.dag_main_run.specs.RunChanges.{clears_rescues}
 use Rattle.dag_main_run.proofs.RunChanges.{none-higher}

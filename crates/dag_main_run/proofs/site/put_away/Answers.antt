@@ -1,4 +1,3 @@
-use Rattle.std.proofs.Common.{◌≡◌, List, ℕ}
 use Rattle.dag_main_files.proofs.RunFaults.{by-fault}
 use Rattle.dag_main_files.proofs.Makes.{begun-more, makes-refused, makes-after}
 use Rattle.dag_main_run.specs.InTheWay.{IsReadyFault}

@@ -1,4 +1,4 @@
-use Rattle.std.proofs.Common.{ℕ, List, Option, Bor, map, sym, refl, subst, string_bytes}
+use Rattle.std.proofs.Common.{ℕ, List, Option, Bor, map, refl, subst, string_bytes}
 use Rattle.std.specs.Option.{option_map}
 use Rattle.std.proofs.lemmas.Result.{IfOk-weaker}
 use Rattle.node_machine.specs.declared.Record.{Record}
@@ -11,7 +11,6 @@ use Rattle.dag_main_inspect.specs.Statused.{journal_bytes}
 use Rattle.dag_main_inspect.specs.LastRound.{not_opened}
 use Rattle.dag_main_inspect.specs.Asked.{TellsOfNoRun}
 use Rattle.dag_main_inspect.proofs.Rounds.{refused-of-round, no-memory, of-records}
-use Rattle.redo.specs.declared.here.Found.{Found}
 use Rattle.redo.specs.Numbers.{IsNextNumber}
 use Rattle.redo.specs.Answered.{IsFoundOfNames, IsRedoReport, IsRedoAnswer, IsNotWritten, redone, IsNoRedo, not_answered, not_written}
 use Rattle.redo.specs.Changes.{no_such_node}

@@ -1,5 +1,4 @@
 use Rattle.std.proofs.Common.{◌≡◌, Bool, ◌++◌, refl, sym, subst, string_bytes}
-use Rattle.event_journal_log.specs.Image.{replay_of}
 use Rattle.dag_main_files.specs.Changes.{writes_rescue}
 use Rattle.dag_main_files.proofs.Makes.{begun-none, begun-after, made-after}
 use Rattle.redo.specs.Changes.{clears_cut_short, writes_redone, redone}

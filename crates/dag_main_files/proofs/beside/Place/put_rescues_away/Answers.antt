@@ -1,4 +1,4 @@
-use Rattle.std.proofs.Common.{◌<◌, ◌≡◌, ℕ, List, [], map, refl, sym, subst, arith}
+use Rattle.std.proofs.Common.{◌<◌, ℕ, List, [], map, refl, sym, subst, arith}
 use Rattle.std.specs.Prelude.{All}
 use Rattle.std.proofs.lemmas.List.Elements.{All-nil, All-contains}
 use Rattle.rescue_file.specs.Numbered.{IsFileNumber}
