@@ -1,9 +1,11 @@
 //! The program's commands over the system's files and streams.
 
-ghost use Rattle.std.specs.Prelude.{◌≡◌, map, Result};
+ghost use Rattle.std.specs.Prelude.{◌≡◌, map};
 ghost use Rattle.dag_main_args.specs.Requests.{asked_by, shown_by};
 ghost use Rattle.dag_main_check.specs.Consoles.{IsExitStatusOf};
 ghost use Rattle.dag_main_run.specs.Sites.{rounds_at};
+ghost use Rattle.dag_main_run.specs.RunChanges.{found_where};
+ghost use Rattle.dagrun.specs.Changes.{ChangesAs, ChangesAsAsked};
 ghost use Rattle.dagrun.specs.Answered.{fold_at, shown_at, asked_at, is_beside, is_owner_trusted, IsReply, IsExit, AreHints, IsDisplayedThen, IsCall};
 
 use crate::answers::{REFUSED, answer_in};
