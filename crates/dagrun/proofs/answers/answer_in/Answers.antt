@@ -1,4 +1,4 @@
-use Rattle.std.proofs.Common.{rules, ◌≡◌, ◌||◌, ℕ, List, Bor, IfOk, map, string_bytes, refl, subst, sym}
+use Rattle.std.proofs.Common.{rules, ◌≡◌, ◌||◌, ℕ, List, Bor, IfOk, Ok, map, string_bytes, refl, subst, sym}
 use Rattle.dag_main_files.specs.Folder.{any_paths, these_paths}
 use Rattle.dag_main_files.specs.Opened.{changing, fixed}
 use Rattle.redo.specs.Answered.{IsRedo}
@@ -106,4 +106,4 @@ returns-in-Rehearse-clause-changes g c =
 pub returns-in-Page-clause-changes : goal.returns-in-Page-clause-changes
 returns-in-Page-clause-changes g c =
     subst (λ (request : Request). ChangesAs (found_where (g.F.Folder.honest c.args.folder.now) (g.F.Folder.holds c.args.folder.now) (g.F.Folder.has c.args.folder.now)) (asked_by request)
-    _ c.args.changes.now c.args.changes.now) (sym c.in-Page.is) refl
+    (Ok c.page.result) c.args.changes.now c.args.changes.now) (sym c.in-Page.is) refl
