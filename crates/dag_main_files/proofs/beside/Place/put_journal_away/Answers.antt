@@ -33,8 +33,8 @@ returns-clause-changes g c =
     let top = c.args.self.now.top.now in
     let before = c.args.changes.now in
     let renamed : c.rename.new.changes ≡ before ++ (journal_name_of top, Renamed (journal_old_name_of top)) ∷ [] =
-        c.in_ok-rename.ensures.changes ∙ ap (λ (p : List ℕ). before ++ (p, Renamed c.in_ok-old.old) ∷ []) c.in_ok-path.ensures
-        ∙ ap (λ (o : List ℕ). before ++ (journal_name_of top, Renamed o) ∷ []) c.in_ok-old.ensures in
+    c.in_ok-rename.ensures.changes ∙ ap (λ (p : List ℕ). before ++ (p, Renamed c.in_ok-old.old) ∷ []) c.in_ok-path.ensures
+    ∙ ap (λ (o : List ℕ). before ++ (journal_name_of top, Renamed o) ∷ []) c.in_ok-old.ensures in
     makes-after c.sync_names.result ((journal_name_of top, Renamed (journal_old_name_of top)) ∷ []) (syncs_names top) before c.rename.new.changes c.sync_names.new.changes renamed
     (makes-all-or-none c.sync_names.result (syncs_names top) c.rename.new.changes c.sync_names.new.changes c.sync_names.ensures.changes c.sync_names.ensures.no_change)
 

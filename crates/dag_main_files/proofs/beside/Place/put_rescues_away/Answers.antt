@@ -61,8 +61,7 @@ returns-in_err-put_each_away-clause-refused g c =
 pub returns-in_err-put_each_away-clause-changes : goal.returns-in_err-put_each_away-clause-changes
 returns-in_err-put_each_away-clause-changes g c =
     let top = c.args.self.now.top.now in
-    let numbers = c.deref.result.now in
-    (
+    let numbers = c.deref.result.now in (
       numbers,
       subst (AreHigher c.args.from) (sym c.deref.ensures.value) (higher _ _ c.args.from c.in_ok-numbers.numbers.items c.in_ok-numbers.ensures.above),
       makes-refused _ c.from_residual-in_err-put_each_away.result c.from_residual-in_err-put_each_away.ensures.1 (puts_rescues_away top numbers) c.args.changes.now
@@ -78,8 +77,7 @@ returns-clause-refused g c =
 pub returns-clause-changes : goal.returns-clause-changes
 returns-clause-changes g c =
     let top = c.args.self.now.top.now in
-    let numbers = c.deref.result.now in
-    (
+    let numbers = c.deref.result.now in (
       numbers,
       subst (AreHigher c.args.from) (sym c.deref.ensures.value) (higher _ _ c.args.from c.in_ok-numbers.numbers.items c.in_ok-numbers.ensures.above),
       makes-after c.sync_names.result (map (rescue_away top) numbers) (syncs_names top) c.args.changes.now c.put_each_away.new.changes c.sync_names.new.changes
