@@ -15,6 +15,10 @@ UNKNOWN = "is no command that dagrun reads, and no macro that is referred to"
 LOG = "no log is named, and HTCondor keeps none for this job: write log = FILE"
 GETENV = "the job has the environment of dagrun here, and none under HTCondor: write getenv = true"
 FOLDER = "HTCondor runs the job in a folder of its own, where relative paths lead elsewhere: write universe = local"
+COUNTED = "since $(Cluster) begins at 1 again in each round: put $(JOB) into its name"
+INPUT = "is the input of the job, too, and is emptied as it starts: name another file"
+OWN = "is a file of the DAG itself, and is emptied as the job starts: name another file"
+QUOTES = "the double quotes in arguments are letters here, and HTCondor refuses them: write \"-c 'echo hi'\" for -c \"echo hi\", and \\\" for a letter"
 QUIET = "log = a.log\ngetenv = true\nuniverse = local\n"
 
 
@@ -250,10 +254,83 @@ ROWS = [
         "ok nodes=2 edges=0 final=no",
     ),
     Row(
-        "files that are named by the launch",
-        {"x.dag": "JOB A a.sub\nJOB B a.sub\n", "a.sub": sub("output = $(Cluster).txt")},
+        "files that are named by the launch alone",
+        {"x.dag": "JOB A a.sub\nJOB B a.sub\nJOB C a.sub\nPARENT A CHILD B\n", "a.sub": sub("output = $(Cluster).txt")},
+        [f"hint: a.sub:2 A and B may both write 1.txt, {COUNTED}"],
+        "ok nodes=3 edges=1 final=no",
+    ),
+    Row(
+        "files that are named by the launch alone, of two submit files, and by macros of VARS",
+        {
+            "x.dag": 'JOB A a.sub\nJOB B b.sub\nJOB C c.sub\nFINAL D c.sub\nVARS C file="$(part).$(CLUSTERID)"\nVARS D file="$(part).$(clusterid)"\n',
+            "a.sub": sub("output = out.$(Cluster).txt"),
+            "b.sub": sub("name = out.$(ClusterId)", "error = $(name).txt"),
+            "c.sub": sub("part = p", "output = $(file)"),
+        },
+        [f"hint: b.sub:3 A and B may both write out.1.txt, {COUNTED}", f"hint: c.sub:3 C and D may both write p.1, {COUNTED}"],
+        "ok nodes=3 edges=0 final=yes",
+    ),
+    Row(
+        "files that are named by the launch and by the node, and those of a node alone",
+        {
+            "x.dag": 'JOB A a.sub\nJOB B a.sub\nJOB C c.sub\nVARS A part="one"\nVARS B part="two"\n',
+            "a.sub": sub("output = $(JOB).$(Cluster).txt", "error = $(part).$(Cluster).txt"),
+            "c.sub": sub("output = c.$(Cluster).txt", "error = c.$(Cluster).txt"),
+        },
         [],
-        "ok nodes=2 edges=0 final=no",
+        "ok nodes=3 edges=0 final=no",
+    ),
+    Row(
+        "an output that is the input",
+        {
+            "x.dag": "".join(f"JOB {name} {name.lower()}.sub\n" for name in "ABCD") + "JOB E e.sub\nJOB F e.sub\n",
+            "a.sub": sub("input = data.txt", "output = data.txt"),
+            "b.sub": sub("initialdir = d", "input = data.txt", "error = data.txt"),
+            "c.sub": sub("input = data.txt", "output = c.txt"),
+            "d.sub": sub("input = /dev/null", "output = /dev/null", "error = /dev/null"),
+            # Of a sweep one is told.
+            "e.sub": sub("input = $(JOB).txt", "output = $(JOB).txt"),
+            "d/": None,
+        },
+        [f"hint: a.sub:3 data.txt {INPUT}", f"hint: b.sub:4 d/data.txt {INPUT}", f"hint: e.sub:3 E.txt {INPUT}"],
+        "ok nodes=6 edges=0 final=no",
+    ),
+    Row(
+        "an output that is a file of the DAG",
+        {
+            "x.dag": "".join(f"JOB {name} {name.lower()}.sub\n" for name in "ABCDEF") + "SPLICE S d/y.dag\n",
+            "a.sub": sub("output = x.dag.journal", "error = x.dag.log.old"),
+            "b.sub": sub("output = b.txt", "error = a.sub"),
+            "c.sub": sub("output = d/y.dag"),
+            "d.sub": sub("input = x.dag.rescue001", "output = x.dag.rescue001", "error = x.dag.rescue012.old"),
+            "e.sub": sub("output = x.dag.rescue1", "error = x.dag.journal.txt"),
+            "f.sub": sub("output = x.dag", "error = y.dag.journal"),
+            "d/y.dag": "JOB G f.sub\n",
+        },
+        [
+            f"hint: a.sub:2 x.dag.journal {OWN}",
+            f"hint: a.sub:3 x.dag.log.old {OWN}",
+            f"hint: b.sub:3 a.sub {OWN}",
+            f"hint: c.sub:2 d/y.dag {OWN}",
+            f"hint: d.sub:3 x.dag.rescue001 {OWN}",
+            f"hint: d.sub:4 x.dag.rescue012.old {OWN}",
+            f"hint: f.sub:2 x.dag {OWN}",
+            "hint: f.sub:2 F and S+G may run at once, and both write x.dag: put $(JOB) into its name",
+            "hint: f.sub:3 F and S+G may run at once, and both write y.dag.journal: put $(JOB) into its name",
+        ],
+        "ok nodes=7 edges=0 final=no",
+    ),
+    Row(
+        "double quotes in arguments of the old style",
+        {
+            "x.dag": "".join(f"JOB {name} {name.lower()}.sub\n" for name in "ABCD") + 'JOB E d.sub\nVARS D words="say \\"hi\\""\nVARS E words="\\"one two\\""\n',
+            "a.sub": sub('arguments = -c "echo hi"'),
+            "b.sub": sub("arguments = \"-c 'echo \"\"hi\"\"'\""),
+            "c.sub": sub('arguments = -x \\"q\\" y'),
+            "d.sub": sub("arguments = $(words)"),
+        },
+        [f"hint: a.sub:2 {QUOTES}", f"hint: d.sub:2 {QUOTES}"],
+        "ok nodes=5 edges=0 final=no",
     ),
     Row(
         "a cycle: what does not need the graph",

@@ -9,6 +9,7 @@ import html
 import json
 import os
 import re
+import shlex
 import shutil
 import signal
 import subprocess
@@ -313,11 +314,11 @@ def manual_pages(folder):
 
 
 def completed(folder, line):
-    """What bash completes this line to."""
-    words = re.findall(r"=|[^\s=]+", line) + ([""] if line.endswith((" ", "=")) else [])
-    listed = " ".join(f"'{word}'" for word in words)
+    """What bash completes this line to, where the folder is the home folder."""
+    words = re.findall(r"=|(?:\\.|'[^']*'|[^\s=])+", line) + ([""] if line.endswith((" ", "=")) else [])
+    listed = " ".join(map(shlex.quote, words))
     script = f'PATH={os.path.dirname(SHIPPED)}:$PATH; . {TOP}/packaging/completion/dagrun.bash; COMP_WORDS=({listed}); COMP_CWORD={len(words) - 1}; _dagrun; printf "%s\\n" "${{COMPREPLY[@]}}"'
-    said, told, status = call(folder, "bash", "--norc", "-c", script)
+    said, told, status = call(folder, "bash", "--norc", "-c", script, env=dict(os.environ, HOME=folder))
     same((told, status), ("", 0))
     return sorted(said.split("\n")[:-1]) if said != "\n" else []
 
@@ -377,6 +378,14 @@ def completion_of_bash(folder):
         same(len(completed(folder, f"dagrun {name} four.dag ")), 4)
         same(completed(folder, f"dagrun {name} f"), ["four.dag"])
     same(os.path.exists(f"{folder}/made"), False)
+    # However the DAG file is typed, and where a file was changed since the round began.
+    shutil.copy(f"{folder}/four.dag", f"{folder}/two words.dag")
+    for dag in ("~/four.dag", "two\\ words.dag", "~/two\\ words.dag", "'two words.dag'"):
+        same(completed(folder, f"dagrun why {dag} f"), ["first", "fit"])
+    same(call(folder, SHIPPED, "run", "four.dag")[2], 0)
+    write(f"{folder}/a.sub", "executable = /bin/false\nqueue\n")
+    same(call(folder, SHIPPED, "status", "four.dag")[::2], ("", 125))
+    same(completed(folder, "dagrun why four.dag f"), ["first", "fit"])
     # As bash finds it: the word's own function.
     said = call(folder, "bash", "--norc", "-c", f". {TOP}/packaging/completion/dagrun.bash; complete -p dagrun")
     same(said, ("complete -F _dagrun dagrun\n", "", 0))
@@ -591,7 +600,15 @@ def options_of_condor_submit_dag(folder):
         (["y.dag"], "there is no file y.dag"),
         (["-dorescuefrom", "7", "x.dag"], "there is no file x.dag.rescue007"),
         (["a.sub"], "the DAG is refused: L2 UnknownCommand a.sub:1:1"),
+        (["-outfile_dir", "none", "x.dag"], "there is no folder none"),
+        (["-outfile_dir", "none/below", "x.dag"], "there is no folder none/below"),
+        (["-outfile_dir", "a.sub", "x.dag"], "there is no folder a.sub"),
+        (["-outfile_dir", "../taken", "x.dag"], f"{os.path.realpath(folder)}/taken/x.dag.dagman.out can't be written"),
     ]
+    os.makedirs(f"{folder}/taken/x.dag.dagman.out")
+    if os.getuid() != 0:
+        os.mkdir(f"{folder}/closed", 0o555)
+        refusals.append((["-outfile_dir", "../closed", "x.dag"], f"{os.path.realpath(folder)}/closed/x.dag.dagman.out can't be written"))
     for words, line in refusals:
         same(call(f"{folder}/below", SUBMIT, *words), ("", f"condor_submit_dag: {line}\n", 1))
     same(sorted(os.listdir(f"{folder}/below")), ["a.sh", "a.sub", "ran", "x.dag", "x.dag.condor.sub"])

@@ -457,7 +457,7 @@ ROWS = [
     Row(
         "another user's journal",
         {"x.dag": DAG, "a.sub": GOOD, "x.dag.journal@": "", "./": 0o777},
-        [("dagrun run x.dag", 125, ["dagrun: X2 FileRefused x.dag.journal x.dag.journal belongs to user {other}: remove it, or see --trust-owner"])],
+        [("dagrun run x.dag", 125, ["dagrun: X2 FileRefused x.dag.journal x.dag.journal belongs to user {other}, whose round it may be: see --trust-owner"])],
         "rm -f x.dag.journal",
         needs=("root",),
     ),

@@ -542,6 +542,86 @@ def waited_by_its_note(folder):
     kill(second)
 
 
+# What becomes of the file of the identifiers, of which none is known then: nothing, no bytes, half an identifier, one without its folder, one whose folder's
+# number is cut short, and the line of the manager alone.
+LOST = [
+    lambda data: None,
+    lambda data: b"",
+    lambda data: data[:20],
+    lambda data: data[: data.index(b"\t") + 1],
+    lambda data: data[: data.index(b"\n") - 1],
+    lambda data: data.splitlines(True)[-1],
+]
+
+
+def killed_with_lost_identifier(folder, lose=LOST[0]):
+    """A manager is killed once its child is noted, and the file of the identifier is lost then; the child."""
+    sleepers(folder, "A")
+    manager = start(folder, "x.dag")
+    [child] = wait_for_sleeping(1)
+    wait_until(lambda: started_in(folder) == [child] and str(child).encode() in folder.read("x.dag.children"), "no note is written")
+    kill(manager)
+    left = lose(folder.read("x.dag.round"))
+    os.remove(folder.at("x.dag.round"))
+    if left is not None:
+        folder.write("x.dag.round", left.decode())
+    return child
+
+
+REFUSED = ("", "dagrun: X2 FileRefused x.dag.children\n", 125)
+
+
+def an_identifier_that_is_lost(folder):
+    """Where no identifier is known, a child that is noted and runs with one refuses the run. It is not killed, and no copy starts beside it."""
+    for number, lose in enumerate(LOST):
+        place = inner(folder, f"d{number}")
+        child = killed_with_lost_identifier(place, lose)
+        same((number, place.call("run", "x.dag"), sleeping()), (number, REFUSED, [child]))
+        same(orphans_in(place), [("A", "JOB", "0", "done=refused")])
+        end_processes([child])
+        kill(begin_again(place, 1))
+        end_all()
+
+
+def waited_by_its_note_alone(folder):
+    """`--orphans wait` waits for it."""
+    child = killed_with_lost_identifier(folder)
+    second = start(folder, "--orphans", "wait", "x.dag")
+    time.sleep(0.5)
+    same((sleeping(), started_in(folder)), ([child], [child]))
+    os.kill(child, signal.SIGKILL)
+    wait_until(lambda: are_others([child], 1), "the round doesn't go on")
+    same(orphans_in(folder), [("A", "JOB", "0", "done=waited")])
+    kill(second)
+
+
+def left_by_its_note_alone(folder):
+    """What `--orphans leave` leaves is known to the next manager, which has an identifier of its own: it ends its own child alone."""
+    child = killed_with_lost_identifier(folder)
+    manager = start(folder, "--orphans", "leave", "x.dag")
+    wait_until(lambda: len(started_in(folder)) == 2, "the round doesn't go on")
+    kill(manager)
+    same((folder.call("run", "x.dag"), sleeping()), (REFUSED, [child]))
+    same(orphans_in(folder), [("A", "JOB", "0", "done=" + done) for done in ("killed", "left", "refused")])
+
+
+def notes_of_others(folder):
+    """No process of another round is taken for a child by its number alone, where no identifier is known: it began then, since the system was started."""
+    sleepers(folder, "A")
+    stranger = subprocess.Popen(["sleep", length(1)], env={"DAGRUN_ROUND": "other"})
+    began = int(state_of(stranger.pid)[19])
+    with open("/proc/sys/kernel/random/boot_id") as file:
+        boot = file.read().strip()
+    lines = [(began + 1, boot), (began - 1, boot), (began, "another"), (0, boot)]
+    folder.write("x.dag.children", "".join(f"{stranger.pid}\t{at}\t{since}\tA\tJOB\t0\n" for at, since in lines))
+    manager = start(folder, "x.dag")
+    wait_for_sleeping(1)
+    same((stranger.poll(), orphans_in(folder)), (None, []))
+    kill(manager)
+    stranger.kill()
+    stranger.wait()
+
+
 def without_the_round(folder):
     """A child that is started without the identifier on purpose has settings, and is left alone."""
     folder.write("x.dag", "JOB A s.sub\n")
@@ -797,6 +877,10 @@ ROWS = [
     forged_notes,
     noted_alone,
     waited_by_its_note,
+    an_identifier_that_is_lost,
+    waited_by_its_note_alone,
+    left_by_its_note_alone,
+    notes_of_others,
     without_the_round,
     first_thread_gone,
     unreadable,

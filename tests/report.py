@@ -11,6 +11,7 @@ import subprocess
 import sys
 import tempfile
 import time
+import urllib.parse
 from html.parser import HTMLParser
 
 # How many seconds it is waited for what comes at once on a machine that is not busy.
@@ -22,10 +23,11 @@ VOID = {"meta", "input", "path"}
 # The elements that a page may have.
 KNOWN = {
     "html", "head", "meta", "title", "style", "body", "h1", "h2", "p", "b", "ul", "li", "pre", "code", "div", "svg", "path", "rect", "text",
-    "table", "thead", "tbody", "tr", "th", "td", "input", "select", "option", "span", "script",
+    "table", "thead", "tbody", "tr", "th", "td", "input", "select", "option", "span", "script", "a",
 }
 
-# The attributes that would load something, or run something.
+# The attributes that would load something, or run something. A link of a node may lead to a file of this machine.
+LINK = re.compile(r"file://(/[A-Za-z0-9/._~%-]*)$")
 FORBIDDEN = re.compile(r"^(src|href|xlink:href|action|srcset|data|poster|on.*)$")
 
 # The files of a DAG whose names, words and outputs would be tags if they were written as they are.
@@ -43,7 +45,7 @@ class Page(HTMLParser):
     def __init__(self, text):
         super().__init__(convert_charrefs=True)
         self.faults, self.open, self.rows, self.refresh, self.title = [], [], [], [], ""
-        self.texts, self.words = {}, ""
+        self.texts, self.words, self.links = {}, "", []
         self.feed(text)
         self.close()
         if self.open:
@@ -53,7 +55,9 @@ class Page(HTMLParser):
         if tag not in KNOWN and not (tag == "title" and "svg" in self.open):
             self.faults.append(f"element {tag}")
         for name, value in attributes:
-            if FORBIDDEN.match(name):
+            if (tag, name) == ("a", "href") and LINK.match(value):
+                self.links.append(urllib.parse.unquote(LINK.match(value)[1]))
+            elif FORBIDDEN.match(name):
                 self.faults.append(f"attribute {name} of {tag}")
             if name == "http-equiv" and value == "refresh":
                 self.refresh.append(dict(attributes)["content"])
@@ -178,6 +182,26 @@ def ended(program):
     same("refreshes", page.refresh, [])
     same("refreshes of a round that ended", folder.page("--reload").refresh, [])
     has_been_audited(folder, page, [CONFIRMED])
+
+
+def links(program):
+    """A path is a link to the file that is there, whatever its name has."""
+    odd = "100% #1?&\"'<u> \u00fc;.out"
+    files = {
+        "x.dag": "JOB A a.sub\nJOB B b.sub\nPARENT A CHILD B\n",
+        "a.sub": f"executable = /bin/echo\narguments = a\noutput = {odd}\nerror = a.err\nqueue\n",
+        "b.sub": "executable = /bin/true\nqueue\n",
+    }
+    folder = Folder(program, files)
+    same("status of the run", folder.call("run", "x.dag")[0], 0)
+    here = os.path.realpath(folder.place.name)
+    wanted = [here, os.path.join(here, odd), os.path.join(here, "a.err"), here]
+    page = folder.page()
+    same("links", page.links, wanted)
+    with open(page.links[1], encoding="utf-8") as file:
+        same("the file of the second", file.read(), "a\n")
+    os.remove(os.path.join(folder.place.name, "x.dag.log"))
+    same("links without a log", folder.page().links, [])
 
 
 def aborted(program):
@@ -328,7 +352,7 @@ def other_readers(program):
             same(f"what {words[0]} finds", found_by(words, text), [])
 
 
-ROWS = [("a round that ended", ended), ("an aborted round", aborted), ("no round", not_begun), ("a round that runs", runs), ("a round that was cut short", cut_short), ("limits", limits), ("a refusal", refused), ("xmllint and tidy", other_readers), ("5,000 nodes", many)]
+ROWS = [("a round that ended", ended), ("links to files", links), ("an aborted round", aborted), ("no round", not_begun), ("a round that runs", runs), ("a round that was cut short", cut_short), ("limits", limits), ("a refusal", refused), ("xmllint and tidy", other_readers), ("5,000 nodes", many)]
 
 
 def main():

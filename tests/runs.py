@@ -1100,13 +1100,13 @@ def what_help_says_of_defaults(folder):
     plain = came_to()
     same(plain[1], ["0", "0", "0", "1", "2"])
     for option, value, other, said in (
-        ("--maxjobs", "0", "1", "How many jobs may run at once; 0 is no limit"),
-        ("--maxpre", "0", "1", "How many PRE scripts may run at once"),
-        ("--maxpost", "0", "1", "How many POST scripts may run at once"),
-        ("--autorescue", "1", "0", "0: a new round reads no rescue file"),
-        ("--progress", "auto", "always", "Whether standard error shows how far the run is; auto where it is not given"),
+        ("--maxjobs", "0", "1", "<N> How many jobs may run at once; 0 is no limit"),
+        ("--maxpre", "0", "1", "<N> How many PRE scripts may run at once"),
+        ("--maxpost", "0", "1", "<N> How many POST scripts may run at once"),
+        ("--autorescue", "1", "0", "<0|1> 0: a new round reads no rescue file"),
+        ("--progress", "auto", "always", "<WORD> Whether standard error shows how far the run is; auto where it is not given"),
     ):
-        same((option, f"{option} <{option[2:]}> {said}" in text), (option, True))
+        same((option, f"{option} {said}" in text), (option, True))
         same((option, came_to(option, value)), (option, plain))
         same((option, came_to(option, other) == plain), (option, False))
     same("kill where it is not given" in text, True)
@@ -1616,6 +1616,22 @@ def no_permission(folder):
         "A ERROR: its job was not started: HERE/a.sh: Permission denied (os error 13), in attempt 1 of 1; no node waits for it",
         "    command  HERE/a.sh", "    folder   HERE", "    error    not kept: no file is named for it",
         "    repair   it may not be executed: chmod +x HERE/a.sh", script="#!/bin/sh\nexit 0\n",
+    )
+
+
+def no_permission_for_the_reader(folder):
+    """The program may be executed, and what its first line names may not; on a disk that is mounted with noexec it is the same."""
+    def script(folder):
+        shutil.copy("/bin/sh", folder.at("reader"))
+        os.chmod(folder.at("reader"), 0o644)
+        folder.write("a.sh", f"#!{os.path.realpath(folder.at('reader'))}\nexit 0\n")
+        os.chmod(folder.at("a.sh"), 0o755)
+
+    mended(
+        folder, "executable = a.sh",
+        "A ERROR: its job was not started: HERE/a.sh: Permission denied (os error 13), in attempt 1 of 1; no node waits for it",
+        "    repair   only others may execute it, or its disk is mounted with noexec (findmnt -T), or the program of its first line may not be executed:"
+        " ls -l HERE/a.sh", first=script, repair=lambda folder: os.chmod(folder.at("reader"), 0o755),
     )
 
 
@@ -2579,7 +2595,8 @@ while grep -q '^ShdPnd:.*[4-7c-f].\\{4\\}$' /proc/$PPID/status; do sleep 0.01; d
     wanted = ["a.out", "a.err", "b.out", "b.err", "c.out", "folder", "three"]
     # The manager may be stopped within a look at its children, so that this look sees some of the endings, and the next one the others.
     for _ in range(30):
-        for name in ("a.process", "b.process", "stopped"):
+        # The outputs, too: the folder is synced for new names alone.
+        for name in ("a.process", "b.process", "stopped", *wanted[:5]):
             with contextlib.suppress(FileNotFoundError):
                 os.remove(folder.at(name))
         same(subprocess.run(words, cwd=folder.path, capture_output=True, timeout=PATIENCE).returncode, 0)
@@ -3109,6 +3126,41 @@ def redone_splices_and_final(folder):
     same(folder.call("run", "x.dag"), (report, "", 0))
 
 
+def redone_by_the_files_as_they_began(folder):
+    """A node that is done runs again with its submit file as it is now: `redo --as-begun` reads those with which the round began."""
+    folder.write("x.dag", DIAMOND)
+    folder.echo(*"abcd")
+    same(folder.call("run", "x.dag"), (ALL_DONE, "", 0))
+    folder.shell("b", "echo mended > b.txt\n")
+    before = everything(folder)
+    refused(folder, ("redo", "x.dag", "B"), "J5 OtherInputs")
+    same(folder.call("redo", "--as-begun", "x.dag", "tabel")[::2], ("", 125))
+    same(everything(folder), before)
+    same(folder.call("redo", "--as-begun", "x.dag", "B"), ("2 of 4 nodes are done: x.dag.rescue001\n", "", 0))
+    same(rescues(folder), {"001": rescue_of(4, "A", "C")})
+    # Nothing else was changed, so it can be said again: the files are those of the journal's round still.
+    same(folder.call("redo", "--as-begun", "--only", "x.dag", "B"), ("3 of 4 nodes are done: x.dag.rescue002\n", "", 0))
+    os.remove(folder.at("x.dag.rescue002"))
+    report = "A DONE attempts=0 value=-\nB DONE attempts=1 value=0\nC DONE attempts=0 value=-\nD DONE attempts=1 value=0\nresult 0\n"
+    same(folder.call("run", "x.dag"), (report, "", 0))
+    same(folder.read("b.txt"), b"mended\n")
+    # A node that is no more, and was done: the line of the rescue file that names it.
+    folder.write("x.dag", "JOB A a.sub\nJOB B b.sub\nJOB C c.sub\n")
+    same(folder.call("redo", "--as-begun", "x.dag", "B"), ("2 of 4 nodes are done: x.dag.rescue002\n", "", 0))
+    folder.write("x.dag.rescue002", folder.read("x.dag.rescue002") + b"DONE D\n")
+    refused(folder, ("run", "x.dag"), f"E2 UnknownNode x.dag.rescue002:{len(folder.read('x.dag.rescue002').splitlines())}")
+    # Of a round that was cut short the journal is put away.
+    for name in ("x.dag.journal", "x.dag.rescue001", "x.dag.rescue002"):
+        os.remove(folder.at(name))
+    same(folder.call("run", "x.dag")[2], 0)
+    cut_short(folder, folder.read("x.dag.journal"), LIFE, launched(0, 1), exited(0, 0), launched(1, 2), exited(1, 0))
+    folder.shell("b", "true\n")
+    same(folder.call("redo", "--as-begun", "x.dag", "B"), ("1 of 3 nodes are done: x.dag.rescue001\n", "", 0))
+    same((folder.there("x.dag.journal"), folder.read("x.dag.rescue001")), (False, rescue_of(3, "A")))
+    # It isn't known how a round began that is not there.
+    refused(folder, ("redo", "--as-begun", "x.dag", "B"), "X2 FileRefused x.dag.journal")
+
+
 def refusals_of_redo(folder):
     """Why nothing runs again, and that nothing is changed then."""
     def is_refused(*told):
@@ -3165,6 +3217,13 @@ def redone_by_files_of_other_users(folder):
                 os.chown(folder.at(name), NOBODY, NOBODY)
         os.chown(folder.at("x.dag.journal"), os.getuid(), os.getgid())
         os.remove(folder.at("x.dag.lock"))
+    # What is said to be the files with which the round began could name other nodes as done.
+    os.chown(folder.at("x.dag.begun"), NOBODY, NOBODY)
+    os.chmod(folder.path, 0o777)
+    before = everything(folder)
+    refused(folder, ("redo", "--as-begun", "x.dag", "B"), "X2 FileRefused x.dag.begun")
+    same(everything(folder), before)
+    same(folder.call("redo", "--as-begun", "--trust-owner", "x.dag", "B"), ("1 of 2 nodes are done: x.dag.rescue001\n", "", 0))
 
 
 def inputs_that_can_not_be_written(folder):
@@ -5045,6 +5104,7 @@ ROWS = [
     few_descriptors,
     one_splice_in_two_folders,
     no_permission,
+    no_permission_for_the_reader,
     no_first_line,
     a_carriage_return,
     no_such_program,
@@ -5093,6 +5153,7 @@ ROWS = [
     redone_numbers,
     redone_after_failure,
     redone_when_cut_short,
+    redone_by_the_files_as_they_began,
     redone_splices_and_final,
     refusals_of_redo,
     halted_while_jobs_run,

@@ -885,6 +885,26 @@ def a_folded_picture(folder):
     same((told.screen.told(), "", told.status), (folder.call("rehearse", "x.dag")[0].splitlines(), "", 0))
 
 
+def what_is_changed_while_it_runs(folder):
+    """A file that is changed while a manager works: nobody is told to give that round up."""
+    folder.shell("A", "while [ ! -e go ]; do sleep 0.02; done\n", error=False)
+    folder.shell("B", "exit 0\n", error=False)
+    folder.write("x.dag", "JOB A A.sub\nJOB B B.sub\nPARENT A CHILD B\n")
+    run = subprocess.Popen([folder.program, "run", "x.dag"], cwd=folder.path, stdout=subprocess.DEVNULL, stderr=subprocess.DEVNULL)
+    for _ in range(15000):
+        if os.path.exists(folder.at("x.dag.log")) and b"\tstart\tA\t" in folder.read("x.dag.log"):
+            break
+        time.sleep(0.02)
+    folder.write("B.sub", "executable = /bin/false\nqueue\n")
+    works = f"process {run.pid} works on the round, which goes by the files as they were: --as-begun shows it, and the next one goes by what was changed"
+    told = folder.on_terminal("status", "x.dag", columns=250)
+    same(told.screen.told()[:2], ["dagrun: J5 OtherInputs", f"    changed since the round began: B.sub; {works}"])
+    advice = " ".join(line.strip() for line in told.screen.told())
+    same("that was cut short and that no manager works on is given up" in advice, True)
+    folder.write("go", "")
+    same(run.wait(timeout=PATIENCE), 0)
+
+
 def how_the_next_round_begins(folder):
     """After J5 of a round that has ended it is said how what is done is kept: by the rescue file that it has left, or by `salvage --ended` where it
     has left none. What is proposed does so."""
@@ -900,8 +920,9 @@ def how_the_next_round_begins(folder):
     same(folder.call("run", "x.dag")[2], 0)
     # All is done, and no rescue file is left by this round.
     folder.write("B.sub", "executable = /bin/true\n# once more\nqueue\n")
-    told = folder.on_terminal("status", "x.dag", columns=200)
-    same(told.screen.told()[:2], ["dagrun: J5 OtherInputs", f"{front} a new round, dagrun salvage --ended x.dag keeps what is done for it, {shown}"])
+    told = folder.on_terminal("status", "x.dag", columns=300)
+    again = "to run nodes of it again, put the files back, call dagrun redo, and change them again"
+    same(told.screen.told()[:2], ["dagrun: J5 OtherInputs", f"{front} a new round, dagrun salvage --ended x.dag keeps what is done for it, {shown}; {again}"])
     text, _, status = folder.call("salvage", "--ended", "x.dag")
     same((text, status), ("2 of 2 nodes are done: x.dag.rescue002\nchanged since the round began: B.sub\n", 0))
     same(folder.call("run", "x.dag"), ("A DONE attempts=0 value=-\nB DONE attempts=0 value=-\nresult 0\n", "", 0))
@@ -1190,6 +1211,25 @@ def goes_on_where_it_stood(folder):
     same(told.text, ALL_DONE)
 
 
+def goes_on_in_another_folder(folder):
+    """Where a round goes on in another folder than before, that is said: its relative paths mean other files there."""
+    folder.write("x.dag", "JOB A A.sub\nJOB B B.sub\nPARENT A CHILD B\n")
+    places = []
+    for name in ("one", "two"):
+        os.mkdir(folder.at(name))
+        place = Folder(folder.program, folder.at(name))
+        place.shell("A", "exit 0\n", error=False)
+        place.shell("B", "exit 0\n", error=False)
+        places.append(place)
+    one, two = places
+    one.write("B.sh", "kill -9 $PPID\n")
+    same(one.call("run", "../x.dag")[2], -signal.SIGKILL)
+    one.write("B.sh", "exit 0\n")
+    told = two.on_terminal("run", "../x.dag", columns=200)
+    elsewhere = f"the round ran in {os.path.realpath(one.path)} before: its relative paths are seen from this folder now"
+    same((told.status, told.kept()[:2]), (0, ["goes on: 1 of 2 nodes is done", elsewhere]))
+
+
 def noops(folder):
     """Nodes for which no child runs are counted as well."""
     folder.shell("A", "sleep 1\n")
@@ -1359,6 +1399,7 @@ ROWS = [
     what_is_odd,
     what_can_not_be_noted,
     what_is_changed,
+    what_is_changed_while_it_runs,
     a_folded_picture,
     how_the_next_round_begins,
     a_salvage_that_is_refused,
@@ -1374,6 +1415,7 @@ ROWS = [
     what_is_in_the_way,
     files_of_others,
     goes_on_where_it_stood,
+    goes_on_in_another_folder,
     noops,
     a_final_node,
     too_many,

@@ -8,6 +8,19 @@ _dagrun_first_words() {
     done < <("${COMP_WORDS[0]}" "${@:2}" 2>/dev/null)
 }
 
+# Offers the nodes of this DAG file that begin with this word. The file is as it was typed: with quotes or backslashes, or with ~ for the home
+# folder. Where its files were changed since the round began, the nodes are those of then.
+_dagrun_nodes() {
+    local word=$1 dag=$2 home=''
+    if [[ $dag == '~/'* ]]; then home=$HOME/ dag=${dag:2}; fi
+    case $dag in
+        [\'\"]*) dag=${dag:1:-1} ;;
+        *) dag=${dag//\\/} ;;
+    esac
+    _dagrun_first_words "$word" status "$home$dag"
+    if [ ${#COMPREPLY[@]} -eq 0 ]; then _dagrun_first_words "$word" status --as-begun "$home$dag"; fi
+}
+
 _dagrun() {
     local word=${COMP_WORDS[COMP_CWORD]} before=${COMP_WORDS[COMP_CWORD - 1]} command='' options='' values='' dag='' place
     COMPREPLY=()
@@ -16,7 +29,7 @@ _dagrun() {
     for ((place = 1; place < COMP_CWORD; place++)); do
         case $command:${COMP_WORDS[place]} in
         :run|:status|:why|:times|:report|:salvage|:redo|:audit|:check|:rehearse|:graph|:explain|:help|:version) command=${COMP_WORDS[place]} ;;
-        ?*:*.dag | rehearse:-) dag=${COMP_WORDS[place]} ;;
+        ?*:*.dag | ?*:*.dag[\'\"] | rehearse:-) dag=${COMP_WORDS[place]} ;;
         esac
     done
     case $before in
@@ -45,7 +58,7 @@ _dagrun() {
         times) options='--svg --json --summary --rounds --as-begun --trust-owner --help' ;;
         report) options='--reload --as-begun --trust-owner --help' ;;
         salvage) options='--ended --trust-owner --help' ;;
-        redo) options='--only --trust-owner --help' ;;
+        redo) options='--only --as-begun --trust-owner --help' ;;
         audit) options='--json --as-begun --trust-owner --help' ;;
         check) options='--all --json --hints --condor --help' ;;
         rehearse) options='--maxjobs --maxpre --maxpost --always-run-post --help' ;;
@@ -72,7 +85,7 @@ _dagrun() {
     # After the DAG file come its nodes.
     case $command:$dag in
         why:?*|redo:?*)
-            _dagrun_first_words "$word" status "$dag"
+            _dagrun_nodes "$word" "$dag"
             return
             ;;
     esac

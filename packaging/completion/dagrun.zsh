@@ -16,7 +16,7 @@ _dagrun() {
     local -a commands
     commands=(
         'run:Runs a DAG file, or goes on with a run that was cut short'
-        'status:Says where each node of a run stands, by its journal'
+        'status:Says where each node of a run is, by its journal'
         'why:Says why nodes are in error, and for whom others wait'
         'times:Says when each phase of a run began and how long it took, by its log'
         'report:Writes one HTML page of the last round, on standard output'
@@ -40,20 +40,20 @@ _dagrun() {
         run)
             _arguments \
                 '(-h --help)'{-h,--help}'[Print help]' \
-                '--maxjobs=[How many jobs may run at once; 0 is no limit]:N:' \
+                '--maxjobs=[How many jobs may run at once; 0 is no limit. -j N is short for it, and -j cpus takes the number of processors]:N:' \
                 '--maxpre=[How many PRE scripts may run at once]:N:' \
                 '--maxpost=[How many POST scripts may run at once]:N:' \
                 '--autorescue=[0\: a new round reads no rescue file]:0 or 1:(0 1)' \
                 '--dorescuefrom=[Begins a new round by the rescue file of this number; those of higher numbers are renamed to .old]:N:' \
-                '--always-run-post[POST scripts run behind PRE scripts that failed, too, and decide]' \
+                '--always-run-post[POST scripts run after PRE scripts that failed, too, and decide]' \
                 '--stop-at-first-error[Launches nothing more once a node has failed for good, and stops when what runs has ended; run goes on]' \
                 '--sync-output=[0\: the files of output and error are not brought to the disk before an ending is recorded]:0 or 1:(0 1)' \
                 '--script-output=[0\: what scripts print is dropped, also where they fail]:0 or 1:(0 1)' \
                 '--log-limit=[How many MiB the log of a round may have; 64 where it is not given, 0 is no limit]:N:' \
                 '--status-file=[Writes the status as JSON into this file as the run begins, while it goes on, and as it ends]:FILE:_files' \
                 '--status-every=[How many seconds pass at least before that file is written again; 60 where it is not given]:N:' \
-                '--launcher=[What stands before the program of each job, as "srun -n1"; it is split as arguments are]:WORDS:' \
-                '--launcher-final[It stands before the program of FINAL'\''s job, too]' \
+                '--launcher=[What comes before the program of each job, as "srun -n1"; it is split as arguments are]:WORDS:' \
+                '--launcher-final[It comes before the program of FINAL'\''s job, too]' \
                 '--launcher-grace=[How many seconds launchers have to end where a run is stopped; 10 where it is not given, 0\: killed at once]:N:' \
                 '--orphans=[What is done with processes that a manager which was killed left running; kill where it is not given \[possible values\: kill, wait, leave\]]:kill or wait or leave:(kill wait leave)' \
                 '--progress=[Whether standard error shows how far the run is; auto where it is not given\: on a terminal \[possible values\: auto, always, never\]]:auto or always or never:(auto always never)' \
@@ -110,6 +110,7 @@ _dagrun() {
             _arguments \
                 '(-h --help)'{-h,--help}'[Print help]' \
                 '--only[These nodes alone run again\: those that come after them stay done]' \
+                '--as-begun[Goes by the files with which the round began, as x.dag.begun keeps them, whatever was changed since]' \
                 '--trust-owner[Root goes by the journal, the rescue files and the lock of another user, and others by those of root]' \
                 '1:DAG:_files -g "*.dag"' \
                 '*:NODE:_dagrun_nodes'
@@ -134,10 +135,10 @@ _dagrun() {
         rehearse)
             _arguments \
                 '(-h --help)'{-h,--help}'[Print help]' \
-                '--maxjobs=[How many jobs may run at once; 0 is no limit]:N:' \
+                '--maxjobs=[How many jobs may run at once; 0 is no limit. -j N is short for it, and -j cpus takes the number of processors]:N:' \
                 '--maxpre=[How many PRE scripts may run at once]:N:' \
                 '--maxpost=[How many POST scripts may run at once]:N:' \
-                '--always-run-post[POST scripts run behind PRE scripts that failed, too, and decide]' \
+                '--always-run-post[POST scripts run after PRE scripts that failed, too, and decide]' \
                 '1:DAG:_files -g "*.dag"' \
                 '2::OUTCOMES:_files'
             ;;

@@ -178,8 +178,9 @@ IsRequestOf command rows (Rehearse dag outcomes limits always_post) = (command �
     × (always_post ≡ is_set (codes "always-run-post") rows)
 IsRequestOf command rows (Salvage dag ended trust_owner) = (command ≡ codes "salvage") × (dag.now ≡ dag_path rows) × (ended ≡ is_set (codes "ended") rows)
     × (trust_owner ≡ trusts_owner rows)
-IsRequestOf command rows (Redo dag nodes only trust_owner) = (command ≡ codes "redo") × (dag.now ≡ dag_path rows)
-    × (map (λ n. n.now) nodes.items ≡ nodes_asked rows) × (only ≡ is_set (codes "only") rows) × (trust_owner ≡ trusts_owner rows)
+IsRequestOf command rows (Redo dag nodes only as_begun trust_owner) = (command ≡ codes "redo") × (dag.now ≡ dag_path rows)
+    × (map (λ n. n.now) nodes.items ≡ nodes_asked rows) × (only ≡ is_set (codes "only") rows) × (as_begun ≡ is_set (codes "as-begun") rows)
+    × (trust_owner ≡ trusts_owner rows)
 IsRequestOf command rows (Page text) = IsPageOf command rows (string_bytes text)
 
 -- what the command asks for that was matched to words; where none was, a rehearsal of standard input

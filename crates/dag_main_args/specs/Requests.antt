@@ -21,7 +21,7 @@ pub data Shown : Type 0 where
   the_page : (reload : Bool) → Shown
 
 -- A command with its words: the path of the DAG file first; of a command that reads what is beside that file last whether its owner is trusted. Of a check also
--- whether all faults of lines are asked for, whether it is for other programs, and whether hints are asked for; of what is shown of a round whether this is by
+-- whether all faults of lines are asked for, whether it is for other programs, and whether hints are asked for; of what is shown of a round, and of `redo`, whether this is by
 -- the files with which it began; of `salvage` whether a round that has ended is taken, too. Or the page that is to be printed, which the words alone determine.
 pub data Asked : Type 0 where
   checks : List ℕ → (all json hinted : Bool) → Asked
@@ -29,7 +29,7 @@ pub data Asked : Type 0 where
   views : List ℕ → Shown → (as_begun trust_owner : Bool) → Asked
   rehearses : List ℕ → Option (List ℕ) → Limits → Bool → Asked
   salvages : List ℕ → (ended trust_owner : Bool) → Asked
-  redoes : List ℕ → List (List ℕ) → (only trust_owner : Bool) → Asked
+  redoes : List ℕ → List (List ℕ) → (only as_begun trust_owner : Bool) → Asked
   shows : List ℕ → Asked
 
 -- what a view shows
@@ -48,7 +48,7 @@ asked_by (Run dag options) = runs dag.now options
 asked_by (Show round view) = views round.dag.now (shown_by view) round.as_begun round.trust_owner
 asked_by (Rehearse dag outcomes limits always_post) = rehearses dag.now (option_map (λ t. t.now) outcomes) limits always_post
 asked_by (Salvage dag ended trust_owner) = salvages dag.now ended trust_owner
-asked_by (Redo dag nodes only trust_owner) = redoes dag.now (map (λ n. n.now) nodes.items) only trust_owner
+asked_by (Redo dag nodes only as_begun trust_owner) = redoes dag.now (map (λ n. n.now) nodes.items) only as_begun trust_owner
 asked_by (Page text) = shows (string_bytes text)
 
 -- no limits but that on all children
@@ -69,5 +69,5 @@ limits_in (runs dag options) = Some options.limits
 limits_in (rehearses dag outcomes limits always_post) = Some limits
 limits_in (views dag shown as_begun trust_owner) = None
 limits_in (salvages dag ended trust_owner) = None
-limits_in (redoes dag nodes only trust_owner) = None
+limits_in (redoes dag nodes only as_begun trust_owner) = None
 limits_in (shows text) = None

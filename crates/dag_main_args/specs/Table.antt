@@ -21,9 +21,13 @@ needed name = record (optional name) { required = true }
 abbrev pub many : Text → Rule
 many name = record (new_rule name) { action = Some Append; range = Some (record { start_inclusive = 0; end_inclusive = usize_max }) }
 
--- an option with a text; with a number of 16 bits; with 0 or 1; with one of these words
+-- an option of a name
+abbrev pub option : Text → Rule
+option name = record (optional name) { long = Some name }
+
+-- an option with a text; with a number of 16 bits; with 0 or 1; with one of these words: help calls the value by a name of its own
 abbrev pub text_option : Text → Rule
-text_option name = record (optional name) { long = Some name }
+text_option name = record (option name) { value_names = 1 }
 
 abbrev pub number : Text → Rule
 number name = record (text_option name) { parser = Some (Signed (pos 0) (pos 65535)) }
@@ -34,13 +38,9 @@ switch name = record (text_option name) { parser = Some (Signed (pos 0) (pos 1))
 abbrev pub choice : Text → Bor (List (Bor Text)) → Rule
 choice name words = record (text_option name) { parser = Some (Names words) }
 
--- an option with a text that help calls by a name of its own
-abbrev pub named_text : Text → Rule
-named_text name = record (text_option name) { value_names = 1 }
-
 -- an option with no value; and one that clap refuses beside another option, where `is_tied`
 abbrev pub flag : Text → Rule
-flag name = record (text_option name) { action = Some SetTrue }
+flag name = record (option name) { action = Some SetTrue }
 
 abbrev pub tied_flag : (is_tied : Bool) → Text → Rule
 tied_flag is_tied name = record (flag name) { is_free = not is_tied }
@@ -74,7 +74,7 @@ json = flag (codes "json")
 abbrev pub run_rules : (is_tied : Bool) → (orphans progress : Bor (List (Bor Text))) → List Rule
 run_rules is_tied orphans progress = dag ∷ number (codes "maxjobs") ∷ number (codes "maxpre") ∷ number (codes "maxpost") ∷ switch (codes "autorescue")
     ∷ number (codes "dorescuefrom") ∷ flag (codes "always-run-post") ∷ flag (codes "stop-at-first-error") ∷ switch (codes "sync-output") ∷ switch (codes "script-output") ∷ number (codes "log-limit")
-    ∷ named_text (codes "status-file") ∷ number (codes "status-every") ∷ named_text (codes "launcher")
+    ∷ text_option (codes "status-file") ∷ number (codes "status-every") ∷ text_option (codes "launcher")
     ∷ flag (codes "launcher-final") ∷ number (codes "launcher-grace") ∷ choice (codes "orphans") orphans ∷ choice (codes "progress") progress
     ∷ tied_flag is_tied (codes "resume") ∷ json ∷ trust_owner ∷ []
 
@@ -91,7 +91,7 @@ commands is_tied orphans progress = command (codes "run") (run_rules is_tied orp
     ∷ command (codes "times") (dag ∷ tied_flag is_tied (codes "svg") ∷ tied_flag is_tied (codes "json") ∷ tied_flag is_tied (codes "summary") ∷ tied_flag is_tied (codes "rounds") ∷ as_it_began ∷ trust_owner ∷ [])
     ∷ command (codes "report") (dag ∷ flag (codes "reload") ∷ as_it_began ∷ trust_owner ∷ [])
     ∷ command (codes "salvage") (dag ∷ flag (codes "ended") ∷ trust_owner ∷ [])
-    ∷ command (codes "redo") (dag ∷ many (codes "NODE") ∷ flag (codes "only") ∷ trust_owner ∷ [])
+    ∷ command (codes "redo") (dag ∷ many (codes "NODE") ∷ flag (codes "only") ∷ as_it_began ∷ trust_owner ∷ [])
     ∷ command (codes "audit") (dag ∷ json ∷ as_it_began ∷ trust_owner ∷ [])
     ∷ command (codes "check") (dag ∷ flag (codes "all") ∷ json ∷ flag (codes "hints") ∷ flag (codes "condor") ∷ [])
     ∷ command (codes "rehearse") rehearsal_rules
@@ -122,8 +122,8 @@ rule_of_kind is_tied name Switch = switch name
 rule_of_kind is_tied name Flag = flag name
 rule_of_kind is_tied name (FlagWithout other) = tied_flag is_tied name
 rule_of_kind is_tied name (FlagWithoutEach one other third) = tied_flag is_tied name
-rule_of_kind is_tied name Words = named_text name
-rule_of_kind is_tied name Path = named_text name
+rule_of_kind is_tied name Words = text_option name
+rule_of_kind is_tied name Path = text_option name
 rule_of_kind is_tied name (Choice words) = choice name words
 
 abbrev pub rule_by : (is_tied : Bool) → ArgumentRow → Rule

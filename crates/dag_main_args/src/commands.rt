@@ -73,7 +73,7 @@ const TABLE: ArgumentRow = ArgumentRow {
 const JOBS: ArgumentRow = ArgumentRow {
     name: "maxjobs",
     kind: Kind::Number,
-    help: "How many jobs may run at once; 0 is no limit",
+    help: "How many jobs may run at once; 0 is no limit. -j N is short for it, and -j cpus takes the number of processors",
 };
 
 const PRE: ArgumentRow = ArgumentRow {
@@ -103,7 +103,7 @@ const DORESCUEFROM: ArgumentRow = ArgumentRow {
 const ALWAYS_POST: ArgumentRow = ArgumentRow {
     name: "always-run-post",
     kind: Kind::Flag,
-    help: "POST scripts run behind PRE scripts that failed, too, and decide",
+    help: "POST scripts run after PRE scripts that failed, too, and decide",
 };
 
 const STOP_AT_FIRST_ERROR: ArgumentRow = ArgumentRow {
@@ -265,13 +265,13 @@ const RELOAD: ArgumentRow = ArgumentRow {
 const LAUNCHER: ArgumentRow = ArgumentRow {
     name: "launcher",
     kind: Kind::Words,
-    help: "What stands before the program of each job, as \"srun -n1\"; it is split as arguments are",
+    help: "What comes before the program of each job, as \"srun -n1\"; it is split as arguments are",
 };
 
 const LAUNCHER_FINAL: ArgumentRow = ArgumentRow {
     name: "launcher-final",
     kind: Kind::Flag,
-    help: "It stands before the program of FINAL's job, too",
+    help: "It comes before the program of FINAL's job, too",
 };
 
 const LAUNCHER_GRACE: ArgumentRow = ArgumentRow {
@@ -340,7 +340,7 @@ static COMMANDS: [CommandRow; 14] = [
     },
     CommandRow {
         name: "status",
-        about: "Says where each node of a run stands, by its journal",
+        about: "Says where each node of a run is, by its journal",
         arguments: &[FILE, JSON, AS_BEGUN, TRUST_OWNER],
     },
     CommandRow {
@@ -374,7 +374,7 @@ static COMMANDS: [CommandRow; 14] = [
     CommandRow {
         name: "redo",
         about: "Makes a rescue file of the last round by which nodes run again that are done",
-        arguments: &[FILE, REDONE, ONLY, TRUST_OWNER],
+        arguments: &[FILE, REDONE, ONLY, AS_BEGUN, TRUST_OWNER],
     },
     CommandRow {
         name: "audit",
@@ -426,13 +426,13 @@ static EXAMPLES: [Examples; 14] = [
         text: "  dagrun run x.dag                    runs x.dag, or goes on with its round
   dagrun run --maxjobs 4 x.dag        with 4 jobs at once at most
   dagrun run --dorescuefrom 1 x.dag   goes back to x.dag.rescue001
-  dagrun run --resume x.dag           begins no round behind one that has ended
+  dagrun run --resume x.dag           begins no round after one that has ended
   dagrun run --launcher \"srun -n1\" x.dag   with each job on a Slurm cluster
 ",
     },
     Examples {
         command: "status",
-        text: "  dagrun status x.dag                 where each node stands, also while it runs
+        text: "  dagrun status x.dag                 where each node is, also while it runs
   watch dagrun status x.dag           again and again
   dagrun status --json x.dag | jq .   the same for other programs
 ",
@@ -468,11 +468,12 @@ static EXAMPLES: [Examples; 14] = [
         command: "redo",
         text: "  dagrun redo x.dag Fit               `dagrun run x.dag` runs Fit and all that come after it
   dagrun redo --only x.dag Fit Plot   these two alone
+  dagrun redo --as-begun x.dag Fit    the same where Fit's submit file was changed since
 ",
     },
     Examples {
         command: "audit",
-        text: "  dagrun audit x.dag                  what the journal of the last round stands for
+        text: "  dagrun audit x.dag                  what the nodes of the last round came to, by its journal alone
 ",
     },
     Examples {
@@ -518,7 +519,7 @@ static EXAMPLES: [Examples; 14] = [
 /// What the help that names no command shows.
 const FIRST_EXAMPLES: &str = "  dagrun check x.dag      whether the files of x.dag are right
   dagrun run x.dag        runs it, or goes on with its round
-  dagrun status x.dag     where each node stands
+  dagrun status x.dag     where each node is
   dagrun explain L2       what a fault says, and what to do
   dagrun help run         how run is called
 ";
@@ -534,9 +535,13 @@ fn argument_of<'a>(alloc: Global, row: &ArgumentRow, is_tied: bool) -> Result<Ar
         Kind::Needed => argument.required(true),
         Kind::Optional => argument,
         Kind::Many => argument.num_args(0..).action(ArgAction::Append),
-        Kind::Number => argument.long(row.name).value_parser(value_parser!(u16)),
+        Kind::Number => argument
+            .long(row.name)
+            .value_name("N")
+            .value_parser(value_parser!(u16)),
         Kind::Switch => argument
             .long(row.name)
+            .value_name("0|1")
             .value_parser(value_parser!(u8).range(0..=1)),
         Kind::Flag => argument.long(row.name).action(ArgAction::SetTrue),
         Kind::FlagWithout(other) => {
@@ -559,7 +564,10 @@ fn argument_of<'a>(alloc: Global, row: &ArgumentRow, is_tied: bool) -> Result<Ar
         }
         Kind::Words => argument.long(row.name).value_name("WORDS"),
         Kind::Path => argument.long(row.name).value_name("FILE"),
-        Kind::Choice(words) => argument.long(row.name).value_parser(words),
+        Kind::Choice(words) => argument
+            .long(row.name)
+            .value_name("WORD")
+            .value_parser(words),
     })
 }
 

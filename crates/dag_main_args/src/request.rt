@@ -232,11 +232,13 @@ pub enum Request<'a> {
         trust_owner: bool,
     },
 
-    /// `redo DAG NODE ..`: the path of the DAG file, the names of nodes, and whether these alone run again.
+    /// `redo DAG NODE ..`: the path of the DAG file, the names of nodes, whether these alone run again, and whether the round is looked
+    /// up by the files with which it began.
     Redo {
         dag: &'a str,
         nodes: Vec<&'a str>,
         only: bool,
+        as_begun: bool,
         trust_owner: bool,
     },
 
@@ -544,6 +546,7 @@ fn made_of_round<'a>(
             dag,
             nodes: nodes_of(alloc, found)?,
             only: is_set(found, "only"),
+            as_begun: is_set(found, "as-begun"),
             trust_owner,
         }),
         _ => page_of(alloc, command, found),

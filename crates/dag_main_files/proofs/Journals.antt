@@ -2,7 +2,7 @@
 use Rattle.std.proofs.Common.{◌≡◌, ℕ, List, Bool, true, false, Option, Some, None, Result, Ok, Err, IfOk, IfErr, refl, sym, subst, ◌∙◌}
 use Rattle.event_journal_log.specs.declared.fault.JournalFault.{JournalFault}
 use Rattle.event_journal_log.specs.declared.fault.JournalFault.TheVariants as faults
-use Rattle.event_journal_log.specs.declared.journal.Peek.{Peek}
+use Rattle.event_journal_log.specs.declared.decoded.Peek.{Peek}
 use Rattle.event_journal_log.specs.Image.{Found, replay_of}
 use Rattle.event_journal_log.specs.Journal.{IsReadFault, read_failed, read_had_no_memory, reads_no_journal, reads_version, reads_other_inputs, reads_other_flag, reads_bad_slot}
 use Rattle.event_journal_log.specs.Peeks.{ends_with_finish, ReadsPeek}

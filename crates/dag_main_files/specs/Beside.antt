@@ -52,11 +52,6 @@ pub data IsRoomFault (top : List ℕ) : RunFault → Type 0 where
       IsRoomFault top (FileRefused file)
   naming_had_no_memory : IsRoomFault top Memory
 
--- the system refuses a file, or memory ran out
-pub data IsFileFault : RunFault → Type 0 where
-  file_refused : (file : String Global) → IsFileFault (FileRefused file)
-  reading_had_no_memory : IsFileFault Memory
-
 -- the system refuses the file of this path, or memory ran out
 pub data IsRefusalOf (path : List ℕ) : RunFault → Type 0 where
   path_refused : (file : String Global) → string_bytes file ≡ path → IsRefusalOf path (FileRefused file)

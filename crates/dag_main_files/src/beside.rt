@@ -4,7 +4,7 @@ ghost use Rattle.std.specs.Prelude.{◌≡◌, ◌≤◌, ◌∷◌, ◌++◌, [
 ghost use Rattle.rescue_file.specs.Numbered.{IsFileNumber, rescue_name_of};
 ghost use Rattle.splices_flat.specs.Paths.{join};
 ghost use Rattle.dag_main_check.specs.declared.fault.RunFault.TheVariants.{Memory};
-ghost use Rattle.dag_main_files.specs.Beside.{journal_name_of, lock_name_of, folder_name_of, IsFileFault, IsRefusalOf, IsRescueMoveFault, IsNameLength, HasRoomForNames, IsRoomFault};
+ghost use Rattle.dag_main_files.specs.Beside.{journal_name_of, lock_name_of, folder_name_of, IsRefusalOf, IsRescueMoveFault, IsNameLength, HasRoomForNames, IsRoomFault};
 ghost use Rattle.dag_main_files.specs.Changes.{Makes, AreHigher, locks, unlocks, syncs_names, puts_journal_away, rescue_away, puts_rescues_away};
 ghost use Rattle.dag_main_files.specs.declared.changes.Change.TheVariants.{Renamed};
 
@@ -42,7 +42,6 @@ pub struct Place<'a> {
 /// What is returned for the file of this path, which the system refuses: `Memory` for lack of memory, or
 /// else `FileRefused` with the path.
 pub fn refused(alloc: Global, path: &str, error: &io::Error) -> RunFault
-    ensures file { IsFileFault result }
     ensures path { IsRefusalOf path.now result }
 {
     if error.kind() == ErrorKind::OutOfMemory {
@@ -159,7 +158,7 @@ impl<'a> Place<'a> {
         rt: &R,
         path: &str,
     ) -> Result<Option<Vec<u8>>, RunFault>
-        ensures { IfErr result IsFileFault }
+        ensures { IfErr result (IsRefusalOf path.now) }
     {
         read_beside(rt.alloc(), rt, self.folder, path)
     }
@@ -266,7 +265,6 @@ impl<'a> Place<'a> {
         path: &str,
         trust_owner: bool,
     ) -> Result<(), RunFault>
-        ensures refused { IfErr result IsFileFault }
         ensures named { IfErr result (IsRefusalOf path.now) }
     {
         let alloc = rt.alloc();
@@ -286,7 +284,6 @@ impl<'a> Place<'a> {
     /// # Errors
     /// `FileRefused` with the path of such a one; `Memory`, also for one that is too large, as `read` says it.
     pub fn is_regular<R: Files + AllocGlobal>(&self, rt: &R, path: &str) -> Result<(), RunFault>
-        ensures refused { IfErr result IsFileFault }
         ensures named { IfErr result (IsRefusalOf path.now) }
     {
         let place = self.at(rt.alloc(), path)?;
@@ -469,7 +466,6 @@ pub(crate) fn read_beside<R: Files + AllocGlobal>(
     seat: &str,
     path: &str,
 ) -> Result<Option<Vec<u8>>, RunFault>
-    ensures refused { IfErr result IsFileFault }
     ensures named { IfErr result (IsRefusalOf path.now) }
 {
     let place = path_in(alloc, seat, path)?;

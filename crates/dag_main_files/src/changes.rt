@@ -73,7 +73,8 @@ impl Noted {
     }
 }
 
-/// What is done to a file beside a DAG file, or to its folder; it is noted once the system has answered that it is done.
+/// What is done to a file beside a DAG file, or to its folder. A lock, a new name, a sync and a written file are noted once the system has
+/// answered that it is done; the others are noted as they are asked for.
 #[derive(Drop)]
 pub enum Change {
     /// The file is locked; it is made where it is missing.

@@ -6,7 +6,7 @@ ghost use Rattle.splices_flat.specs.Opening as opening;
 ghost use Rattle.splices_flat.specs.FileSet.{bytes_of};
 ghost use Rattle.event_journal_log.specs.Peeks.{ReadsPeek};
 ghost use Rattle.dag_main_check.specs.declared.fault.RunFault.TheVariants.{Memory};
-ghost use Rattle.dag_main_files.specs.Beside.{folder_name_of, IsFileFault, IsRefusalOf, IsRefusalHeld, IsInputFault, IsJournalFault};
+ghost use Rattle.dag_main_files.specs.Beside.{folder_name_of, IsRefusalOf, IsRefusalHeld, IsInputFault, IsJournalFault};
 ghost use Rattle.dag_main_files.specs.Folder.{journal_in, IsHighestThere, IsJournalFaultHeld};
 
 use crate::beside::{LAST_NUMBER, Place, journal_path, read_beside, rescue_path};
@@ -64,7 +64,6 @@ pub trait Folder {
     /// another user's; `Memory`.
     fn beside(&self, alloc: Global, path: &str) -> Result<Option<Vec<u8>>, RunFault>
         ensures bytes { honest self.now → IfOk result (λ bytes. option_map (λ b. b.items) bytes ≡ holds self.now path.now) }
-        ensures refused { IfErr result IsFileFault }
         ensures named { IfErr result (IsRefusalOf path.now) }
         // A file that is refused isn't held.
         ensures unheld { honest self.now → IfErr result (IsRefusalHeld (holds self.now) path.now) };
@@ -122,7 +121,6 @@ impl<'a, R: Files + AllocGlobal> SystemFolder<'a, R> {
     /// # Errors
     /// `FileRefused` with the path of a file that may be another user's; `Memory`.
     fn goes_by(&self, path: &str) -> Result<(), RunFault>
-        ensures refused { IfErr result IsFileFault }
         ensures named { IfErr result (IsRefusalOf path.now) }
     {
         let place = Place {

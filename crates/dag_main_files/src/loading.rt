@@ -203,15 +203,33 @@ impl ToRead {
     ) -> Result<(), RunFault>
         ensures { IfErr result (λ fault. fault ≡ Memory) }
     {
-        let file = match read_dag(alloc, bytes) {
+        for line in bytes.rsplit(|byte| *byte == b'\n') {
+            if may_name_a_file(line) {
+                self.want_of_line(alloc, folder, without_carriage_return(line), depth)?;
+            }
+        }
+        Ok(())
+    }
+
+    /// Wants the file that a line names; none where the line is no command.
+    fn want_of_line(
+        &mut self,
+        alloc: Global,
+        folder: &str,
+        line: &[u8],
+        depth: u32,
+    ) -> Result<(), RunFault>
+        ensures { IfErr result (λ fault. fault ≡ Memory) }
+    {
+        let file = match read_dag(alloc, line) {
             Ok(file) => file,
             Err(ReadFault::Memory) => return Err(RunFault::Memory),
             Err(_) => return Ok(()),
         };
-        for command in file.commands.iter().rev() {
-            self.want(alloc, folder, command, depth)?;
+        match file.commands.first() {
+            Some(command) => Ok(self.want(alloc, folder, command, depth)?),
+            None => Ok(()),
         }
-        Ok(())
     }
 
     /// Wants the file that a line names.
@@ -251,6 +269,21 @@ impl ToRead {
             _ => (),
         }
         Ok(())
+    }
+}
+
+/// Whether a line may be one of JOB, FINAL or SPLICE, by the first letter of its first word: most lines of a large DAG are others, and aren't
+/// read twice.
+fn may_name_a_file(line: &[u8]) -> bool {
+    let first = line.iter().find(|byte| !matches!(byte, b' ' | b'\t'));
+    matches!(first, Some(b'J' | b'j' | b'F' | b'f' | b'S' | b's'))
+}
+
+/// A line without the carriage return before its end.
+fn without_carriage_return(line: &[u8]) -> &[u8] {
+    match line {
+        [front @ .., b'\r'] => front,
+        _ => line,
     }
 }
 

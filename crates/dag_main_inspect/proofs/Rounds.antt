@@ -1,17 +1,11 @@
 -- What is said of the last round.
-use Rattle.std.proofs.Common.{◌≡◌, ◌≢◌, ◌∙◌, ◌⊎◌, ◌<◌, inl, inr, ℕ, Bool, false, List, Option, Some, None, Result, Ok, Err, IfOk, IfErr, IsTrue, string_bytes, refl, sym, ap, subst}
+use Rattle.std.proofs.Common.{◌≡◌, ◌∙◌, ◌⊎◌, ◌<◌, inl, inr, ℕ, Bool, false, List, Option, Some, None, Result, Ok, Err, IfOk, IsTrue, string_bytes, sym, ap, subst}
 use Rattle.std.specs.Prelude.{IfSome, IfNone}
 use Rattle.splices_flat.specs.Opening.{Files}
 use Rattle.node_machine.specs.declared.Record.{Record}
 use Rattle.run_plan.specs.Plan.{Plan}
 use Rattle.sched_core.specs.Run.{chronological, is_lawful}
 use Rattle.sched_core.specs.Core.{Progress}
-use Rattle.event_journal_log.specs.declared.fault.JournalFault.{JournalFault}
-use Rattle.event_journal_log.specs.declared.fault.JournalFault.TheVariants as faults
-use Rattle.event_journal_log.specs.declared.journal.Peek.{Peek}
-use Rattle.event_journal_log.specs.Image.{replay_of}
-use Rattle.event_journal_log.specs.Peeks.{ReadsPeek, flag_read}
-use Rattle.event_journal_log.specs.Reading.{FailsAs}
 use Rattle.dag_main_check.specs.Planned.{in_line, named_by, opening_had_no_memory}
 use Rattle.dag_main_check.specs.Warnings.{warning_lines}
 use Rattle.graph_text.specs.Picture.{unknown}
@@ -22,48 +16,10 @@ use Rattle.dag_main_files.specs.Beside.{journal_name_of}
 use Rattle.dag_main_files.specs.Opened.{Holding, changing, fixed, IsReadAs, IsUnreadable, IsOfFiles, IsRefusedFor, for_files, HasPlan, HasNoPlan, HasBarePlan, HasNoGraph}
 use Rattle.dag_main_files.proofs.OpenedFiles.{read-some, read-held}
 use Rattle.dag_main_inspect.specs.Statused.{journal_bytes, flag_by, records_in_bytes, reading_had_no_memory}
-use Rattle.dag_main_inspect.specs.LastRound.{used_read, finished_read, used_by, used_name, IsHead, IsNamedFile, IsLastRound, IsNoLastRound, no_such_rescue, rescue_refused, looking_had_no_memory, IsOpenedRound, IsNotOpenedRound, has_no_plan, IsOfLastRound, IsRefusedOfLastRound, refused_by_round}
+use Rattle.dag_main_inspect.specs.LastRound.{used_by, used_name, IsNamedFile, IsLastRound, IsNoLastRound, no_such_rescue, rescue_refused, looking_had_no_memory, IsOpenedRound, IsNotOpenedRound, has_no_plan, IsOfLastRound, IsRefusedOfLastRound, refused_by_round}
 use Rattle.dag_main_inspect.specs.Drawn.{IsDrawnText, IsBareDrawn}
 use Rattle.dag_main_inspect.specs.declared.graphs.Shape.{Shape}
-use Rattle.dag_main_inspect.specs.declared.round.Head.{Head}
 use Rattle.dag_main_inspect.specs.Asked.{IsOfRecords, TellsOfNoRun, IsNoStatus}
-
--- what the head of a journal says, by what reading it gives
-module _ (journal : Option (List ℕ)) (head : Head) where
-  pub head-of-found : (peek : Peek) → ReadsPeek (Some peek) (replay_of (journal_bytes journal)) → head.used ≡ peek.used → head.always_post ≡ peek.always_post
-      → head.finished ≡ peek.finished → IsHead journal head
-  head-of-found peek (found, reads, used_is, next_is, flag_is, finished_is) used flag end = record {
-    used_is = used ∙ sym used_is ∙ sym (ap used_read reads);
-    flag_is = flag ∙ sym flag_is ∙ sym (ap flag_read reads);
-    end_is = end ∙ sym finished_is ∙ sym (ap finished_read reads);
-  }
-
-  pub head-of-none : replay_of (journal_bytes journal) ≡ Ok None → head.used ≡ 0 → head.always_post ≡ false → head.finished ≡ false → IsHead journal head
-  head-of-none reads used flag end = record {
-    used_is = used ∙ sym (ap used_read reads);
-    flag_is = flag ∙ sym (ap flag_read reads);
-    end_is = end ∙ sym (ap finished_read reads);
-  }
-
-  head-of-fault : (fault : JournalFault) → replay_of (journal_bytes journal) ≡ Err fault → head.used ≡ 0 → head.always_post ≡ false → head.finished ≡ false → IsHead journal head
-  head-of-fault fault reads used flag end = record {
-    used_is = used ∙ sym (ap used_read reads);
-    flag_is = flag ∙ sym (ap flag_read reads);
-    end_is = end ∙ sym (ap finished_read reads);
-  }
-
-  pub head-of-refused : (fault : JournalFault) → fault ≢ faults.Memory → FailsAs fault (replay_of (journal_bytes journal)) → head.used ≡ 0 → head.always_post ≡ false
-      → head.finished ≡ false → IsHead journal head
-  head-of-refused faults.Memory other fails used flag end = absurd (other refl)
-  head-of-refused faults.Device other fails used flag end = absurd fails
-  head-of-refused faults.DiskFull other fails used flag end = absurd fails
-  head-of-refused faults.NotAJournal other fails used flag end = head-of-fault faults.NotAJournal fails used flag end
-  head-of-refused (faults.Version v) other fails used flag end = head-of-fault (faults.Version v) fails used flag end
-  head-of-refused faults.OtherInputs other fails used flag end = head-of-fault faults.OtherInputs fails used flag end
-  head-of-refused faults.OtherFlag other fails used flag end = head-of-fault faults.OtherFlag fails used flag end
-  head-of-refused faults.SlotsFull other fails used flag end = absurd fails
-  head-of-refused faults.Broken other fails used flag end = absurd fails
-  head-of-refused (faults.BadSlot slot) other fails used flag end = head-of-fault (faults.BadSlot slot) fails used flag end
 
 -- the file that is named, whatever is known; and where these files are held
 named-some : (path name rescue : Option (List ℕ)) → (name ≡ None → rescue ≡ None) → path ≡ name → IsNamedFile changing path rescue

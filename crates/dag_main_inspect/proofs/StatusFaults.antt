@@ -35,6 +35,18 @@ read-fault plan bytes journal.SlotsFull is = absurd is
 read-fault plan bytes journal.Broken is = absurd is
 read-fault plan bytes (journal.BadSlot slot) is = no_journal (journal.BadSlot slot) is
 
+pub no-records : (plan : Plan) (bytes : List ℕ) (fault : JournalFault) → replay_by plan bytes ≡ Err fault → IsRecordsFault plan bytes (bytes_fault fault)
+no-records plan bytes journal.Memory is = reading_had_no_memory
+no-records plan bytes journal.Device is = no_journal journal.Device is
+no-records plan bytes journal.DiskFull is = no_journal journal.DiskFull is
+no-records plan bytes journal.NotAJournal is = no_journal journal.NotAJournal is
+no-records plan bytes (journal.Version v) is = no_journal (journal.Version v) is
+no-records plan bytes journal.OtherInputs is = no_journal journal.OtherInputs is
+no-records plan bytes journal.OtherFlag is = no_journal journal.OtherFlag is
+no-records plan bytes journal.SlotsFull is = no_journal journal.SlotsFull is
+no-records plan bytes journal.Broken is = no_journal journal.Broken is
+no-records plan bytes (journal.BadSlot slot) is = no_journal (journal.BadSlot slot) is
+
 -- the records that were read
 records-read : (plan : Plan) (bytes : List ℕ) (read : Option (List Record)) → ReadsRecords read (replay_by plan bytes)
     → records_in_bytes plan bytes ≡ Some (unwrap_or read [])

@@ -11,7 +11,7 @@ use Rattle.dag_main_files.specs.Opened.{Holding, IsReadAs, IsOfFiles, IsRefusedF
 use Rattle.dag_main_inspect.specs.Statused.{journal_bytes, records_in_bytes, form_text, IsStatusBy, IsRecordsFault}
 use Rattle.dag_main_inspect.specs.Audited.{audit_form_text, IsAuditText}
 use Rattle.dag_main_inspect.specs.Drawn.{IsPicture, IsBareDrawn, IsJournalDrawnFault}
-use Rattle.dag_main_inspect.specs.LastRound.{IsNoLastRound, IsNotOpenedRound, IsOfLastRound, IsRefusedOfLastRound}
+use Rattle.dag_main_inspect.specs.LastRound.{IsNoLastRound, IsOfLastRound, IsRefusedOfLastRound}
 use Rattle.dag_main_inspect.specs.declared.graphs.Shape.{Shape}
 use Rattle.dag_main_inspect.specs.declared.statuses.Form.{Form}
 use Rattle.dag_main_inspect.specs.declared.by_journal.Question.{Question}

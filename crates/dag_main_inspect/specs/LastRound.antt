@@ -1,5 +1,5 @@
 -- What is beside a DAG file of its last round, and the plan of that round.
-use Rattle.std.specs.Prelude.{◌≡◌, ◌<◌, ℕ, zero, suc, Bool, false, List, Option, Some, None, Result, Ok, Err}
+use Rattle.std.specs.Prelude.{◌≡◌, ◌≢◌, ◌<◌, ℕ, zero, suc, Bool, false, List, Option, Some, None, Result, Ok, Err}
 use Rattle.rescue_file.specs.Numbered.{rescue_name_of}
 use Rattle.run_plan.specs.Plan.{Plan}
 use Rattle.event_journal_log.specs.declared.fault.JournalFault.{JournalFault}
@@ -11,7 +11,7 @@ use Rattle.dag_main_check.specs.Planned.{in_line, named_by}
 use Rattle.dag_main_check.specs.declared.fault.RunFault.{RunFault}
 use Rattle.dag_main_check.specs.declared.fault.RunFault.TheVariants.{NotThere, Memory}
 use Rattle.dag_main_inspect.specs.Statused.{journal_bytes, flag_by}
-use Rattle.dag_main_inspect.specs.declared.round.Head.{Head}
+use Rattle.dag_main_inspect.specs.declared.journal.Head.{Head}
 
 -- the number of the rescue file that a run read, as the header of its journal says: 0 for none, and where there is no header
 abbrev pub used_read : Result (Option Found) JournalFault → ℕ
@@ -30,6 +30,11 @@ finished_read (Err fault) = false
 
 abbrev pub has_ended_by : Option (List ℕ) → Bool
 has_ended_by journal = finished_read (replay_of (journal_bytes journal))
+
+-- the journal that bytes are read as; none where none was begun, and where they can't be read
+abbrev pub Decodes : List ℕ → Option Found → Type 0
+Decodes bytes None = (found : Found) → replay_of bytes ≢ Ok (Some found)
+Decodes bytes (Some found) = replay_of bytes ≡ Ok (Some found)
 
 -- What the header of a journal says, and whether its last record is Finish; where there is none to be read, no rescue file was read, POST runs after no failed
 -- PRE, and the run has not ended.

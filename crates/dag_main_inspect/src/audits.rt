@@ -32,7 +32,7 @@ pub(crate) fn audit_in(
     path: &str,
 ) -> Result<Answer, RunFault>
     ensures audit { IfOk result (λ answer. IsAuditSaid form path.now (string_bytes answer.text) (string_bytes answer.warnings) answer.status
-        round.now.plan (option_map (λ b. b.items) round.now.journal)) }
+        round.now.plan round.now.journal) }
     ensures err { IfErr result (λ fault. fault ≡ Memory) }
 {
     let audited = audit_bytes(alloc, &round.plan, round.bytes(), form, path)?;

@@ -5,12 +5,12 @@ ghost use Rattle.dag_main_check.specs.declared.fault.RunFault.TheVariants.{Memor
 ghost use Rattle.dag_main_check.specs.Warnings.{warning_lines};
 ghost use Rattle.graph_text.specs.Picture.{drawn_plan, states_of};
 ghost use Rattle.dag_main_files.specs.Opened.{changing, fixed, IsOfFiles, IsRefusedFor, HasNoGraph};
-ghost use Rattle.dag_main_inspect.specs.Statused.{records_in_bytes, IsRecordsFault};
+ghost use Rattle.dag_main_inspect.specs.Statused.{journal_bytes, records_in_bytes, IsRecordsFault};
 ghost use Rattle.dag_main_inspect.specs.Drawn.{IsDrawnText, IsPicture, IsBareDrawn, IsJournalDrawnFault, tells_of_others};
 ghost use Rattle.dag_main_inspect.specs.Asked.{IsDrawn, IsNotDrawn};
 
-use crate::round::last_round;
-use crate::statuses::{core_of, records_of};
+use crate::round::{OpenedRound, last_round};
+use crate::statuses::core_of;
 use dag_main_check::{Answer, RunFault, warning_text};
 use dag_main_files::{Folder, bare_plan_here};
 use event_journal_log::JournalFault;
@@ -51,11 +51,11 @@ pub(crate) fn graph_here<F: Folder>(
     ensures refused_held { F.honest folder.now → IfErr result (IsNotDrawn (fixed (F.holds folder.now)) top.now) }
 {
     let round = last_round(alloc, folder, top)?;
-    if round.journal.is_none() {
+    if !round.journal.is_there() {
         return bare_graph(alloc, folder, top, shape);
     }
     let opened = round.open(alloc, folder, top)?;
-    graph_plan(alloc, &opened.plan, opened.bytes(), shape)
+    graph_plan(alloc, &opened, shape)
 }
 
 /// The picture of the DAG files alone.
@@ -101,15 +101,16 @@ fn answer_for(alloc: Global, drawn: &Drawn<'_>, shape: Shape) -> Result<Answer, 
     })
 }
 
-/// The picture of a plan that has a journal of these bytes.
-fn graph_plan(alloc: Global, plan: &Plan, bytes: &[u8], shape: Shape) -> Result<Answer, RunFault>
-    ensures drawn { IfOk result (λ answer. IsPicture shape plan.now bytes.now (string_bytes answer.text)) }
-    ensures warnings { IfOk result (λ answer. string_bytes answer.warnings ≡ warning_lines plan.now.graph.dag.warnings) }
+/// The picture of a round that has a journal.
+fn graph_plan(alloc: Global, round: &OpenedRound, shape: Shape) -> Result<Answer, RunFault>
+    ensures drawn { IfOk result (λ answer. IsPicture shape round.now.plan (journal_bytes round.now.journal) (string_bytes answer.text)) }
+    ensures warnings { IfOk result (λ answer. string_bytes answer.warnings ≡ warning_lines round.now.plan.graph.dag.warnings) }
     ensures status { IfOk result (λ answer. answer.status ≡ 0) }
-    ensures refused { IfErr result (IsJournalDrawnFault plan.now bytes.now) }
+    ensures refused { IfErr result (IsJournalDrawnFault round.now.plan (journal_bytes round.now.journal)) }
 {
-    match records_of(alloc, plan, bytes) {
-        Ok(records) => graph_run(alloc, plan, bytes, &records, shape),
+    let (plan, bytes) = (&round.plan, round.bytes());
+    match round.journal.records(alloc, plan) {
+        Ok(records) => graph_run(alloc, plan, bytes, records.as_slice(), shape),
         Err(fault) => graph_unless(alloc, plan, bytes, fault, shape),
     }
 }

@@ -6,6 +6,7 @@ mod audit_data;
 mod audits;
 mod by_journal;
 mod graphs;
+mod journal;
 mod reports;
 mod round;
 mod status_data;
@@ -13,6 +14,7 @@ mod statuses;
 
 pub use by_journal::{Question, answer_here, report_here};
 pub use graphs::Shape;
+pub use journal::ReadJournal;
 pub use round::{LastRound, OpenedRound, last_round, open_round};
 pub use status_data::{line_of as json_line, node_of as node_json, value_of as value_json};
 pub use statuses::{Form, json_of_status};

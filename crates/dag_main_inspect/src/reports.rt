@@ -23,9 +23,9 @@ use std::alloc::Global;
 /// Those of `OpenedRound::core`.
 pub(crate) fn report_in(alloc: Global, round: &OpenedRound) -> Result<Option<Answer>, RunFault>
     ensures report { IfOk result (λ answer. IfSome answer (λ answer. IsReportSaid (string_bytes answer.text) (string_bytes answer.warnings) answer.status
-        round.now.plan (option_map (λ b. b.items) round.now.journal))) }
-    ensures none { IfOk result (λ answer. IfNone answer (HasNotEnded round.now.plan (journal_bytes (option_map (λ b. b.items) round.now.journal)))) }
-    ensures refused { IfErr result (TellsOfNoRun round.now.plan (option_map (λ b. b.items) round.now.journal)) }
+        round.now.plan round.now.journal)) }
+    ensures none { IfOk result (λ answer. IfNone answer (HasNotEnded round.now.plan (journal_bytes round.now.journal))) }
+    ensures refused { IfErr result (TellsOfNoRun round.now.plan round.now.journal) }
 {
     let core = round.core(alloc)?;
     if !core.is_over() {

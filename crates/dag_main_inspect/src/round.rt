@@ -10,11 +10,11 @@ ghost use Rattle.dag_main_inspect.specs.Statused.{journal_bytes, flag_by, record
 ghost use Rattle.dag_main_inspect.specs.LastRound.{used_by, has_ended_by, used_name, IsHead, IsLastRound, IsNoLastRound, IsOpenedRound, IsNotOpenedRound};
 ghost use Rattle.dag_main_inspect.specs.Asked.{TellsOfNoRun};
 
-use crate::statuses::{bytes_in, core_of, records_of};
+use crate::journal::ReadJournal;
+use crate::statuses::core_of;
 use dag_main_check::RunFault;
 use dag_main_files::{Folder, LAST_NUMBER, journal_path, named, plan_here, rescue_path};
 use dag_reader::Text;
-use event_journal_log::{JournalFault, peek_bytes};
 use run_plan::Plan;
 use sched_core::Core;
 use std::alloc::Global;
@@ -22,72 +22,18 @@ use std::alloc::Global;
 /// How often a journal that can't be read is looked at again, at most.
 const MOST_LOOKS: usize = 100;
 
-/// What the header of a journal says, and whether its last record is the end of the run.
-#[derive(Clone, Copy)]
-struct Head {
-    used: u16,
-    always_post: bool,
-    finished: bool,
-    is_readable: bool,
-}
-
-impl Head {
-    /// That of a journal that was not begun, or can't be read.
-    const fn none(is_readable: bool) -> Self
-        ensures used { result.used ≡ 0 }
-        ensures always_post { result.always_post ≡ false }
-        ensures finished { result.finished ≡ false }
-    {
-        Head {
-            used: 0,
-            always_post: false,
-            finished: false,
-            is_readable,
-        }
-    }
-}
-
-/// The head of a journal of these bytes.
-///
-/// # Errors
-/// `Memory` alone.
-fn head_of(alloc: Global, journal: Option<&[u8]>) -> Result<Head, RunFault>
-    ensures head { IfOk result (IsHead (option_map (λ b. b.now) journal.entry)) }
-    ensures err { IfErr result (λ fault. fault ≡ Memory) }
-{
-    match peek_bytes(alloc, bytes_in(journal)) {
-        Ok(Some(peek)) => Ok(Head {
-            used: peek.used,
-            always_post: peek.always_post,
-            finished: peek.finished,
-            is_readable: true,
-        }),
-        Ok(None) => Ok(Head::none(true)),
-        Err(JournalFault::Memory) => Err(RunFault::Memory),
-        Err(_) => Ok(Head::none(false)),
-    }
-}
-
-/// A journal as it was read; no bytes where it is missing.
-#[derive(Drop)]
-struct Journal {
-    bytes: Option<Vec<u8>>,
-    head: Head,
-}
-
 /// The journal of this path.
 ///
 /// # Errors
 /// `FileRefused` with the path of a journal that the system refuses to read, or that is no regular file; `Memory`.
-fn read_once<F: Folder>(alloc: Global, folder: &F, path: &str) -> Result<Journal, RunFault>
-    ensures held { F.honest folder.now → IfOk result (λ journal. option_map (λ b. b.items) journal.bytes ≡ F.holds folder.now path.now) }
-    ensures head { IfOk result (λ journal. IsHead (option_map (λ b. b.items) journal.bytes) journal.head) }
+fn read_once<F: Folder>(alloc: Global, folder: &F, path: &str) -> Result<ReadJournal, RunFault>
+    ensures held { F.honest folder.now → IfOk result (λ journal. journal ≡ F.holds folder.now path.now) }
     ensures refused { IfErr result (IsRefusalOf path.now) }
     ensures unheld { F.honest folder.now → IfErr result (IsRefusalHeld (F.holds folder.now) path.now) }
 {
     let bytes = folder.beside(alloc, path)?;
-    let head = head_of(alloc, bytes.as_deref())?;
-    Ok(Journal { bytes, head })
+    let journal = ReadJournal::new(alloc, bytes)?;
+    Ok(journal)
 }
 
 /// The journal beside a DAG file. One that can't be read may be one that a manager writes just then: as long as it grows, it is
@@ -95,21 +41,20 @@ fn read_once<F: Folder>(alloc: Global, folder: &F, path: &str) -> Result<Journal
 ///
 /// # Errors
 /// Those of `read_once`.
-fn journal_of<F: Folder>(alloc: Global, folder: &F, top: &str) -> Result<Journal, RunFault>
+fn journal_of<F: Folder>(alloc: Global, folder: &F, top: &str) -> Result<ReadJournal, RunFault>
     ensures held { F.honest folder.now
-        → IfOk result (λ journal. option_map (λ b. b.items) journal.bytes ≡ F.holds folder.now (journal_name_of top.now)) }
-    ensures head { IfOk result (λ journal. IsHead (option_map (λ b. b.items) journal.bytes) journal.head) }
+        → IfOk result (λ journal. journal ≡ F.holds folder.now (journal_name_of top.now)) }
     ensures refused { IfErr result (IsRefusalOf (journal_name_of top.now)) }
     ensures unheld { F.honest folder.now → IfErr result (IsRefusalHeld (F.holds folder.now) (journal_name_of top.now)) }
 {
     let path = journal_path(alloc, top)?;
     let mut found = read_once(alloc, folder, path.as_str())?;
     for _ in 0..MOST_LOOKS {
-        if found.head.is_readable {
+        if found.is_readable() {
             break;
         }
         let again = read_once(alloc, folder, path.as_str())?;
-        let same = bytes_in(again.bytes.as_deref()).len() == bytes_in(found.bytes.as_deref()).len();
+        let same = again.bytes().len() == found.bytes().len();
         found = again;
         if same {
             break;
@@ -138,8 +83,8 @@ fn used_path(alloc: Global, top: &str, used: u16) -> Result<Option<Text>, RunFau
 /// What is beside a DAG file of its last round.
 #[derive(Drop)]
 pub struct LastRound {
-    /// The bytes of the journal; none where there is no journal.
-    pub journal: Option<Vec<u8>>,
+    /// The journal.
+    pub journal: ReadJournal,
     /// The path of the rescue file that the journal names; none where it names none.
     pub name: Option<Text>,
     /// The bytes of that file; none where it is missing.
@@ -158,29 +103,30 @@ pub struct LastRound {
 /// rescue file is. Lack of memory may come before any.
 pub fn last_round<F: Folder>(alloc: Global, folder: &F, top: &str) -> Result<LastRound, RunFault>
     ensures round { IfOk result (λ round. IsLastRound changing top.now
-        (option_map (λ b. b.items) round.journal) (option_map (λ b. b.items) round.rescue)) }
+        round.journal (option_map (λ b. b.items) round.rescue)) }
     // The journal and the rescue file that its header names are those that the folder holds.
     ensures held { F.honest folder.now → IfOk result (λ round. IsLastRound (fixed (F.holds folder.now)) top.now
-        (option_map (λ b. b.items) round.journal) (option_map (λ b. b.items) round.rescue)) }
-    ensures name { IfOk result (λ round. round.name ≡ used_name top.now (used_by (option_map (λ b. b.items) round.journal))) }
-    ensures flag { IfOk result (λ round. round.always_post ≡ flag_by (option_map (λ b. b.items) round.journal)) }
-    ensures ended { IfOk result (λ round. round.has_ended ≡ has_ended_by (option_map (λ b. b.items) round.journal)) }
+        round.journal (option_map (λ b. b.items) round.rescue)) }
+    ensures name { IfOk result (λ round. round.name ≡ used_name top.now (used_by round.journal)) }
+    ensures flag { IfOk result (λ round. round.always_post ≡ flag_by round.journal) }
+    ensures ended { IfOk result (λ round. round.has_ended ≡ has_ended_by round.journal) }
     ensures refused { IfErr result (IsNoLastRound changing top.now) }
     // The refusal too is for what the folder holds.
     ensures refused_held { F.honest folder.now → IfErr result (IsNoLastRound (fixed (F.holds folder.now)) top.now) }
 {
     let journal = journal_of(alloc, folder, top)?;
-    let name = used_path(alloc, top, journal.head.used)?;
+    let head = journal.head();
+    let name = used_path(alloc, top, head.used)?;
     let rescue = match &name {
         Some(name) => folder.beside(alloc, name.as_str())?,
         None => None,
     };
     Ok(LastRound {
-        journal: journal.bytes,
+        journal,
         name,
         rescue,
-        always_post: journal.head.always_post,
-        has_ended: journal.head.finished,
+        always_post: head.always_post,
+        has_ended: head.finished,
     })
 }
 
@@ -189,8 +135,8 @@ pub fn last_round<F: Folder>(alloc: Global, folder: &F, top: &str) -> Result<Las
 pub struct OpenedRound {
     /// The plan of the files and of the rescue file that the journal names.
     pub plan: Plan,
-    /// The bytes of the journal; none where there is no journal.
-    pub journal: Option<Vec<u8>>,
+    /// The journal.
+    pub journal: ReadJournal,
 }
 
 impl LastRound {
@@ -204,20 +150,20 @@ impl LastRound {
         folder: &F,
         top: &str,
     ) -> Result<OpenedRound, RunFault>
-        requires flag { self.always_post ≡ flag_by (option_map (λ b. b.items) self.journal) }
-        requires name { self.name ≡ used_name top.now (used_by (option_map (λ b. b.items) self.journal)) }
-        ensures opened { IsLastRound changing top.now (option_map (λ b. b.items) self.journal) (option_map (λ b. b.items) self.rescue)
-            → IfOk result (λ round. IsOpenedRound changing top.now round.plan (option_map (λ b. b.items) round.journal)) }
+        requires flag { self.always_post ≡ flag_by self.journal }
+        requires name { self.name ≡ used_name top.now (used_by self.journal) }
+        ensures opened { IsLastRound changing top.now self.journal (option_map (λ b. b.items) self.rescue)
+            → IfOk result (λ round. IsOpenedRound changing top.now round.plan round.journal) }
         ensures held { F.honest folder.now
-            → IsLastRound (fixed (F.holds folder.now)) top.now (option_map (λ b. b.items) self.journal) (option_map (λ b. b.items) self.rescue)
-            → IfOk result (λ round. IsOpenedRound (fixed (F.holds folder.now)) top.now round.plan (option_map (λ b. b.items) round.journal)) }
-        ensures refused { IsLastRound changing top.now (option_map (λ b. b.items) self.journal) (option_map (λ b. b.items) self.rescue)
+            → IsLastRound (fixed (F.holds folder.now)) top.now self.journal (option_map (λ b. b.items) self.rescue)
+            → IfOk result (λ round. IsOpenedRound (fixed (F.holds folder.now)) top.now round.plan round.journal) }
+        ensures refused { IsLastRound changing top.now self.journal (option_map (λ b. b.items) self.rescue)
             → IfErr result (IsNotOpenedRound changing top.now) }
         ensures refused_held { F.honest folder.now
-            → IsLastRound (fixed (F.holds folder.now)) top.now (option_map (λ b. b.items) self.journal) (option_map (λ b. b.items) self.rescue)
+            → IsLastRound (fixed (F.holds folder.now)) top.now self.journal (option_map (λ b. b.items) self.rescue)
             → IfErr result (IsNotOpenedRound (fixed (F.holds folder.now)) top.now) }
         // It is the round's own journal.
-        ensures journal { IfOk result (λ round. option_map (λ b. b.items) round.journal ≡ option_map (λ b. b.items) self.journal) }
+        ensures journal { IfOk result (λ round. round.journal ≡ self.journal) }
     {
         match plan_here(alloc, folder, top, self.rescue.as_deref(), self.always_post) {
             Ok(plan) => Ok(OpenedRound {
@@ -234,10 +180,10 @@ impl LastRound {
 /// # Errors
 /// Those of `last_round`, then those of `LastRound::open`.
 pub fn open_round<F: Folder>(alloc: Global, folder: &F, top: &str) -> Result<OpenedRound, RunFault>
-    ensures opened { IfOk result (λ round. IsOpenedRound changing top.now round.plan (option_map (λ b. b.items) round.journal)) }
+    ensures opened { IfOk result (λ round. IsOpenedRound changing top.now round.plan round.journal) }
     // It is that of the files, the journal and the rescue file that the folder holds.
     ensures held { F.honest folder.now
-        → IfOk result (λ round. IsOpenedRound (fixed (F.holds folder.now)) top.now round.plan (option_map (λ b. b.items) round.journal)) }
+        → IfOk result (λ round. IsOpenedRound (fixed (F.holds folder.now)) top.now round.plan round.journal) }
     ensures refused { IfErr result (IsNotOpenedRound changing top.now) }
     // The refusal too is for what the folder holds.
     ensures refused_held { F.honest folder.now → IfErr result (IsNotOpenedRound (fixed (F.holds folder.now)) top.now) }
@@ -249,9 +195,9 @@ pub fn open_round<F: Folder>(alloc: Global, folder: &F, top: &str) -> Result<Ope
 impl OpenedRound {
     /// The bytes of the journal; none where there is none.
     pub fn bytes(&self) -> &[u8]
-        ensures { result.now ≡ journal_bytes (option_map (λ b. b.items) self.now.journal) }
+        ensures { result.now ≡ journal_bytes self.now.journal }
     {
-        bytes_in(self.journal.as_deref())
+        self.journal.bytes()
     }
 
     /// The run as it is by the records of the journal.
@@ -261,13 +207,13 @@ impl OpenedRound {
     pub fn core(&self, alloc: Global) -> Result<Core<'_>, RunFault>
         ensures plan { IfOk result (λ core. core.plan ≡ self.now.plan) }
         ensures records { IfOk result (λ core.
-            records_in_bytes self.now.plan (journal_bytes (option_map (λ b. b.items) self.now.journal)) ≡ Some (chronological core.past)) }
+            records_in_bytes self.now.plan (journal_bytes self.now.journal) ≡ Some (chronological core.past)) }
         ensures lawful { IfOk result (λ core. IsTrue (is_lawful core.plan core.past)) }
-        ensures refused { IfErr result (TellsOfNoRun self.now.plan (option_map (λ b. b.items) self.now.journal)) }
+        ensures refused { IfErr result (TellsOfNoRun self.now.plan self.now.journal) }
     {
         let bytes = self.bytes();
-        let records = records_of(alloc, &self.plan, bytes)?;
-        let core = core_of(alloc, &self.plan, bytes, &records)?;
+        let records = self.journal.records(alloc, &self.plan)?;
+        let core = core_of(alloc, &self.plan, bytes, records.as_slice())?;
         core.keeps_the_law();
         Ok(core)
     }

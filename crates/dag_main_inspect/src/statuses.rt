@@ -49,8 +49,8 @@ pub(crate) fn status_in(
     path: &str,
 ) -> Result<Answer, RunFault>
     ensures status { IfOk result (λ answer. IsStatusSaid form path.now (string_bytes answer.text) (string_bytes answer.warnings) answer.status
-        round.now.plan (option_map (λ b. b.items) round.now.journal)) }
-    ensures refused { IfErr result (TellsOfNoRun round.now.plan (option_map (λ b. b.items) round.now.journal)) }
+        round.now.plan round.now.journal) }
+    ensures refused { IfErr result (TellsOfNoRun round.now.plan round.now.journal) }
 {
     let core = round.core(alloc)?;
     Ok(Answer {
@@ -90,7 +90,7 @@ fn text_in(alloc: Global, core: &Core<'_>, form: Form, path: &str) -> Result<Str
 }
 
 /// Why bytes that can't be read are refused.
-fn in_journal(fault: JournalFault) -> RunFault
+pub(crate) fn in_journal(fault: JournalFault) -> RunFault
     ensures { result ≡ bytes_fault fault }
 {
     match fault {

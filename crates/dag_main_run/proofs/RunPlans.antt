@@ -1,19 +1,22 @@
 -- What a run prints and why it is refused, by its plan; and what is said of the files that were read is said of those that are held.
-use Rattle.std.proofs.Common.{◌≡◌, ℕ, List, Option, Some, None, Result, Ok, Err, IfOk, string_bytes, refl, sym, subst}
+use Rattle.std.proofs.Common.{◌≡◌, ℕ, Bool, List, Option, Some, None, Result, Ok, Err, IfOk, string_bytes, sym, subst}
 use Rattle.splices_flat.specs.Opening.{Files}
 use Rattle.splices_flat.specs.FileSet.{bytes_of, entries_of}
 use Rattle.splices_flat.specs.declared.file_set.FileSet.{FileSet}
 use Rattle.rescue_file.specs.Numbered.{rescue_name_of}
 use Rattle.dag_graph.specs.Graph.{Network}
-use Rattle.run_plan.specs.Plan.{Plan}
+use Rattle.run_plan.specs.Plan.{Plan, count_of}
 use Rattle.run_plan.specs.declared.fault.PlanFault.TheVariants as plans
 use Rattle.dag_main_args.specs.declared.request.RunOptions.{RunOptions}
 use Rattle.dag_main_files.specs.declared.rounds.Round.{Round}
 use Rattle.dag_main_files.specs.Folder.{IsReadFrom}
 use Rattle.dag_main_files.specs.Opened.{IsStill, still_missing, asking_had_no_memory}
 use Rattle.dag_main_run.specs.Sites.{Rounds}
-use Rattle.dag_main_run.specs.Runs.{RoundSight, IsPlannedRun, IsPlannedFor, IsRunWhere, IsRoundPlanFault, not_planned, not_planned_with, planning_had_no_memory, IsRunFaultWhere, no_graph, not_found, no_plan, no_launcher, no_room, not_alone, not_held, no_memory}
-use Rattle.dag_main_check.specs.Planned.{IsGraphOf, IsPlanBy, in_line, named_by}
+use Rattle.job_starter_local.specs.declared.launching.Launcher.{Launcher}
+use Rattle.dag_main_run.specs.Launching.{IsLauncherBy}
+use Rattle.dag_main_run.specs.RunChanges.{found_where, IsPlannedRound}
+use Rattle.dag_main_run.specs.Runs.{RoundSight, any_round, held_round, IsPlannedRun, IsPlannedFor, IsRunOf, IsRunFrom, IsRoundPlanFault, not_planned, not_planned_with, planning_had_no_memory, IsRunFaultWhere, no_graph, not_found, no_plan, no_launcher, no_room, not_alone, not_held, no_memory}
+use Rattle.dag_main_check.specs.Planned.{in_line, named_by}
 use Rattle.dag_main_check.specs.Missing.{missing_in}
 use Rattle.dag_main_check.specs.Warnings.{warning_lines}
 use Rattle.dag_main_check.specs.declared.fault.RunFault.{RunFault}
@@ -21,56 +24,8 @@ use Rattle.dag_main_check.specs.declared.fault.RunFault.TheVariants.{InPlan}
 use Rattle.dag_main_check.specs.declared.warnings.Answer.{Answer}
 use Rattle.dag_main_check.proofs.HeldFiles.{graph-held, graph-refused, plan-held, plan-refused, planned-held}
 
--- the answer of a round that was led to its end, of one set
-pub answer-where : (files : FileSet) (sight : RoundSight) (rounds : Rounds) (path : List ℕ) (options : RunOptions) (graph : Network)
-    (round : Round) (plan : Plan) (rescue : Option (List ℕ)) → IsGraphOf (bytes_of files) path graph → sight.is_round round → sight.is_rescue round rescue
-    → IsPlanBy round.always_post (bytes_of files) (entries_of files) rescue graph plan → (r : Result Answer RunFault)
-    → IfOk r (λ answer. rounds.led path options.limits plan round (string_bytes answer.text) answer.status)
-    → IfOk r (λ answer. string_bytes answer.warnings ≡ warning_lines plan.graph.dag.warnings)
-    → IfOk r (λ answer. IsRunWhere bytes_of (λ set. set ≡ files) sight rounds path options (string_bytes answer.text) (string_bytes answer.warnings) answer.status)
-answer-where files sight rounds path options graph round plan rescue is_graph is_round is_rescue made (Ok answer) led notes = record {
-  files = files;
-  read = refl;
-  round = round;
-  is_round = is_round;
-  rescue = rescue;
-  rescue_is = is_rescue;
-  answered = record {
-    plan = plan;
-    planned = record { graph = graph; is_graph = is_graph; made = made };
-    answered = led;
-    warnings_are = notes;
-  };
-}
-answer-where files sight rounds path options graph round plan rescue is_graph is_round is_rescue made (Err fault) led notes = tt
-
-abbrev pub planned-for : (files : FileSet) (IsRound : Round → Type 0) (path : List ℕ) (graph : Network) (round : Round) (plan : Plan) → IsGraphOf (bytes_of files) path graph → IsRound round
-    → IsPlannedRun (bytes_of files) files graph round plan → IsPlannedFor bytes_of (λ set. set ≡ files) IsRound path
-planned-for files IsRound path graph round plan is_graph is_round planned = record {
-  files = files;
-  graph = graph;
-  round = round;
-  plan = plan;
-  read = refl;
-  is_graph = is_graph;
-  is_round = is_round;
-  planned = planned;
-}
-
--- what is known of one set is known of some
+-- why a run is refused of one set, it is of some
 module _ (files : FileSet) (sight : RoundSight) (rounds : Rounds) (path : List ℕ) (options : RunOptions) where
-  pub run-of-some : (text warnings : List ℕ) (status : ℕ) → IsRunWhere bytes_of (λ set. set ≡ files) sight rounds path options text warnings status
-      → IsRunWhere bytes_of (λ set. Unit {0}) sight rounds path options text warnings status
-  run-of-some text warnings status is = record {
-    files = is.files;
-    read = tt;
-    round = is.round;
-    is_round = is.is_round;
-    rescue = is.rescue;
-    rescue_is = is.rescue_is;
-    answered = is.answered;
-  }
-
   planned-of-some : IsPlannedFor bytes_of (λ set. set ≡ files) sight.is_round path → IsPlannedFor bytes_of (λ set. Unit {0}) sight.is_round path
   planned-of-some is = record { files = is.files; graph = is.graph; round = is.round; plan = is.plan; read = tt; is_graph = is.is_graph; is_round = is.is_round; planned = is.planned }
 
@@ -82,7 +37,7 @@ module _ (files : FileSet) (sight : RoundSight) (rounds : Rounds) (path : List �
   fault-of-some fault (no_launcher why planned is) = no_launcher why (planned-of-some planned) is
   fault-of-some fault (no_room why planned is) = no_room why (planned-of-some planned) is
   fault-of-some fault (not_alone why planned is) = not_alone why (planned-of-some planned) is
-  fault-of-some fault (not_held planned why is) = not_held (planned-of-some planned) why is
+  fault-of-some fault (not_held planned launcher why launches is) = not_held (planned-of-some planned) launcher why launches is
   fault-of-some fault no_memory = no_memory
 
   pub told-of-some : (fault told : RunFault) → IsRunFaultWhere bytes_of (λ set. set ≡ files) sight rounds path options fault → IsStill (λ file. None) fault told
@@ -105,23 +60,6 @@ named-missing _ name path is = is
 module _ (holds : Files) (files : FileSet) (path : List ℕ) (read : IsReadFrom holds path files) (sight : RoundSight) (rounds : Rounds) (options : RunOptions) where
   here : (set : FileSet) → set ≡ files → IsReadFrom holds path set
   here set same = subst (IsReadFrom holds path) (sym same) read
-
-  pub run-held : (text warnings : List ℕ) (status : ℕ) → IsRunWhere bytes_of (λ set. set ≡ files) sight rounds path options text warnings status
-      → IsRunWhere (λ set. holds) (IsReadFrom holds path) sight rounds path options text warnings status
-  run-held text warnings status is = record {
-    files = is.files;
-    read = here is.files is.read;
-    round = is.round;
-    is_round = is.is_round;
-    rescue = is.rescue;
-    rescue_is = is.rescue_is;
-    answered = record {
-      plan = is.answered.plan;
-      planned = planned-held (bytes_of is.files) holds (here is.files is.read).held is.round.always_post (entries_of is.files) path is.rescue is.answered.plan is.answered.planned;
-      answered = is.answered.answered;
-      warnings_are = is.answered.warnings_are;
-    };
-  }
 
   run-plan-held : (set : FileSet) → set ≡ files → (graph : Network) (round : Round) (plan : Plan) → IsPlannedRun (bytes_of set) set graph round plan → IsPlannedRun holds set graph round plan
   run-plan-held set same graph round plan (rescue, is_rescue, made) =
@@ -161,10 +99,79 @@ module _ (holds : Files) (files : FileSet) (path : List ℕ) (read : IsReadFrom 
   fault-held fault none (no_launcher why planned is) = no_launcher why (planned-for-held planned) is
   fault-held fault none (no_room why planned is) = no_room why (planned-for-held planned) is
   fault-held fault none (not_alone why planned is) = not_alone why (planned-for-held planned) is
-  fault-held fault none (not_held planned why is) = not_held (planned-for-held planned) why is
+  fault-held fault none (not_held planned launcher why launches is) = not_held (planned-for-held planned) launcher why launches is
   fault-held fault none no_memory = no_memory
 
   pub told-held : (fault told : RunFault) → IsRunFaultWhere bytes_of (λ set. set ≡ files) sight rounds path options fault → IsStill holds fault told
       → IsRunFaultWhere (λ set. holds) (IsReadFrom holds path) sight rounds path options told
   told-held fault told why (still_missing none) = fault-held fault none why
   told-held fault told why asking_had_no_memory = no_memory
+
+-- A round that is planned is one of some files; and where the folder is honest, it is one of the files that are held.
+module _ (Honest : Type 0) (holds : Files) (has : List ℕ → Bool) (path : List ℕ) (options : RunOptions) (files : FileSet) (round : Round) (rescue : Option (List ℕ)) (plan : Plan)
+    (is : IsPlannedRound (found_where Honest holds has path options) path options files round rescue plan) where
+  abbrev pub planned-some : IsPlannedFor bytes_of (λ set. Unit {0}) (any_round path options).is_round path
+  planned-some = record {
+    files = files;
+    graph = is.graph;
+    round = round;
+    plan = plan;
+    read = tt;
+    is_graph = is.is_graph;
+    is_round = is.by_options;
+    planned = (rescue, is.rescue_is, is.planned);
+  }
+
+  abbrev pub planned-here : Honest → IsPlannedFor (λ set. holds) (IsReadFrom holds path) (held_round holds has path options).is_round path
+  planned-here honest = let found = is.found honest in record {
+    files = files;
+    graph = is.graph;
+    round = round;
+    plan = plan;
+    read = found.0;
+    is_graph = graph-held (bytes_of files) holds found.0.held path is.graph is.is_graph;
+    is_round = found.1;
+    planned = (rescue, is.rescue_is, plan-held (bytes_of files) holds found.0.held round.always_post (entries_of files) rescue is.graph plan is.planned);
+  }
+
+  -- it is led to its end by a launcher, and prints this
+  module _ (rounds : Rounds) (launcher : Launcher) (launches : IsLauncherBy options (count_of plan) launcher) where
+    pub run-some : (r : Result Answer RunFault) → IfOk r (λ answer. rounds.led path options.limits launcher plan round (string_bytes answer.text) answer.status)
+        → IfOk r (λ answer. string_bytes answer.warnings ≡ warning_lines plan.graph.dag.warnings)
+        → IfOk r (λ answer. IsRunOf rounds path options (string_bytes answer.text) (string_bytes answer.warnings) answer.status)
+    run-some (Ok answer) led notes = record {
+      files = files;
+      read = tt;
+      round = round;
+      is_round = is.by_options;
+      rescue = rescue;
+      rescue_is = is.rescue_is;
+      launcher = launcher;
+      answered = record {
+        plan = plan;
+        planned = record { graph = is.graph; is_graph = is.is_graph; made = is.planned };
+        answered = (launches, led);
+        warnings_are = notes;
+      };
+    }
+    run-some (Err fault) led notes = tt
+
+    pub run-here : Honest → (r : Result Answer RunFault) → IfOk r (λ answer. rounds.led path options.limits launcher plan round (string_bytes answer.text) answer.status)
+        → IfOk r (λ answer. string_bytes answer.warnings ≡ warning_lines plan.graph.dag.warnings)
+        → IfOk r (λ answer. IsRunFrom holds has rounds path options (string_bytes answer.text) (string_bytes answer.warnings) answer.status)
+    run-here honest (Ok answer) led notes = let found = is.found honest in record {
+      files = files;
+      read = found.0;
+      round = round;
+      is_round = found.1;
+      rescue = rescue;
+      rescue_is = found.2;
+      launcher = launcher;
+      answered = record {
+        plan = plan;
+        planned = planned-held (bytes_of files) holds found.0.held round.always_post (entries_of files) path rescue plan (record { graph = is.graph; is_graph = is.is_graph; made = is.planned });
+        answered = (launches, led);
+        warnings_are = notes;
+      };
+    }
+    run-here honest (Err fault) led notes = tt

@@ -6,6 +6,7 @@ use Rattle.event_journal_log.specs.Image.{Found, replay_of}
 use Rattle.event_journal_log.specs.Peeks.{ends_with_finish}
 use Rattle.splices_flat.specs.Opening.{Files}
 use Rattle.throttles.specs.declared.Limits.{Limits}
+use Rattle.job_starter_local.specs.declared.launching.Launcher.{Launcher}
 use Rattle.run_plan.specs.Plan.{Plan}
 use Rattle.job_starter_drive.specs.declared.Call.{Call}
 use Rattle.job_starter_drive.specs.declared.driving.DriveFault.{DriveFault}
@@ -53,7 +54,7 @@ pub fits-found : (holds : Files) (top : List ℕ) (round : Round) → HasJournal
 fits-found holds top round is = fits-held (holds (journal_name_of top)) round is
 
 module _ {D R : Type 0} (disks : Ghosts D) (rescues : Ghosts R) (own : Own D R) (Honest : Type 0) (holds : Files) (top : List ℕ)
-    (limits : Limits) (plan : Plan) (round : Round) (journal : D) (rescue : R) where
+    (limits : Limits) (launcher : Launcher) (plan : Plan) (round : Round) (journal : D) (rescue : R) where
   -- the disks are those of the site
   pub record AreOwn : Type 0 where
     pub is_journal : own.is_journal top journal
@@ -62,7 +63,7 @@ module _ {D R : Type 0} (disks : Ghosts D) (rescues : Ghosts R) (own : Own D R) 
     pub found : Honest → disks.seen journal ≡ journal_found holds top round
     pub back : disks.honest journal → Honest
 
-  at-site : AreOwn → (calls : List Call) (before now : ℕ) → own.answered calls before now → running calls ≡ [] → IsAtSite disks rescues own Honest holds top round journal rescue calls before now
+  at-site : AreOwn → (calls : List Call) (before now : ℕ) → own.answered launcher calls before now → running calls ≡ [] → IsAtSite disks rescues own Honest holds top launcher round journal rescue calls before now
   at-site are calls before now answered none = record {
     is_journal = are.is_journal;
     is_rescue = are.is_rescue;
@@ -79,8 +80,8 @@ module _ {D R : Type 0} (disks : Ghosts D) (rescues : Ghosts R) (own : Own D R) 
       (subst (FitsIn (start_by round)) (sym (are.found (are.back honest))) (fits-found holds top round (by_journal (are.back honest))))
 
   pub led-at : AreOwn → (start : Start) → start ≡ start_by round → (left : D) (rest : Option R) (text : List ℕ) (status : ℕ)
-      → (calls : List Call) × (before : ℕ) × (now : ℕ) × own.answered calls before now × (running calls ≡ []) × IsRoundRun disks rescues plan start limits any_ending [] calls journal left rescue text status rest
-      → IsRoundLedAt disks rescues own Honest holds top limits plan round text status
+      → (calls : List Call) × (before : ℕ) × (now : ℕ) × own.answered launcher calls before now × (running calls ≡ []) × IsRoundRun disks rescues plan start limits any_ending [] calls journal left rescue text status rest
+      → IsRoundLedAt disks rescues own Honest holds top limits launcher plan round text status
   led-at are start same left rest text status (calls, before, now, answered, none, led) = record {
     journal = journal;
     rescue = rescue;
@@ -94,9 +95,9 @@ module _ {D R : Type 0} (disks : Ghosts D) (rescues : Ghosts R) (own : Own D R) 
   }
 
   pub stopped-at : AreOwn → (start : Start) → start ≡ start_by round → (left : D) (rest : Option R) (cause : DriveFault) (fault : RunFault) → IsReturned top cause fault
-      → (calls : List Call) × (before : ℕ) × (now : ℕ) × own.answered calls before now × (running calls ≡ [])
+      → (calls : List Call) × (before : ℕ) × (now : ℕ) × own.answered launcher calls before now × (running calls ≡ [])
       × IsRoundRefusal disks rescues before now plan 16777216 start limits any_ending [] calls journal left rescue rest cause
-      → IsRoundStoppedAt disks rescues own Honest holds top limits plan round fault
+      → IsRoundStoppedAt disks rescues own Honest holds top limits launcher plan round fault
   stopped-at are start same left rest cause fault returned (calls, before, now, answered, none, refused) = record {
     journal = journal;
     rescue = rescue;

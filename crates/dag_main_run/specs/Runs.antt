@@ -1,13 +1,15 @@
 -- What `run` prints.
-use Rattle.std.specs.Prelude.{◌≡◌, ℕ, Bool, List, Option, Some}
+use Rattle.std.specs.Prelude.{◌≡◌, ◌≤◌, ℕ, Bool, List, Option, Some}
+use Rattle.event_journal_log.specs.Image.{IsRescueNumber}
 use Rattle.splices_flat.specs.FileSet.{bytes_of, entries_of}
 use Rattle.splices_flat.specs.declared.file_set.FileSet.{FileSet}
 use Rattle.dag_graph.specs.Graph.{Network}
-use Rattle.run_plan.specs.Plan.{Plan}
+use Rattle.run_plan.specs.Plan.{Plan, count_of}
+use Rattle.job_starter_local.specs.declared.launching.Launcher.{Launcher}
 use Rattle.rescue_file.specs.Numbered.{rescue_name_of}
 use Rattle.recovery_manager.specs.declared.fault.ManagerFault.{ManagerFault}
 use Rattle.dag_main_args.specs.declared.request.RunOptions.{RunOptions}
-use Rattle.dag_main_run.specs.Launching.{IsLauncherFault}
+use Rattle.dag_main_run.specs.Launching.{IsLauncherBy, IsLauncherFault}
 use Rattle.dag_main_run.specs.InTheWay.{IsOwnerFault, IsOrphanFault, IsReadyFault}
 use Rattle.dag_main_run.specs.Sites.{Rounds}
 use Rattle.dag_main_files.specs.declared.rounds.Round.{Round}
@@ -30,6 +32,15 @@ pub record RoundSight : Type 1 where
   pub is_round : Round → Type 0
   pub is_rescue : Round → Option (List ℕ) → Type 0
   pub not_found : RunFault → Type 0
+
+-- A round that is found, with the bytes of its rescue file: one that the options ask for, with numbers that rescue files can have; and where the folder is honest in which these files are
+-- held and these paths are there, the one that the journal and the rescue files make of it there.
+pub record IsFoundRound (Honest : Type 0) (holds : Files) (has : List ℕ → Bool) (path : List ℕ) (options : RunOptions) (round : Round) (rescue : Option (List ℕ)) : Type 0 where
+  pub by_options : IsRoundBy options.autorescue options.dorescuefrom options.always_post round
+  pub rescue_is : IsRescueOf round rescue
+  pub next : IsRescueNumber round.next
+  pub used : round.used ≤ 999
+  pub held : Honest → IsRoundFrom holds has path options.autorescue options.dorescuefrom options.always_post round × (rescue ≡ rescue_in holds path round.used)
 
 -- Why it is not known which round this is and what its rescue file says, the first cause first: the second is met where the first is not.
 pub data IsFindingFault (path : List ℕ) (options : RunOptions) : RunFault → Type 0 where
@@ -60,7 +71,7 @@ held_round holds has path options = record {
 }
 
 -- This was printed of the plan of the files of this path, by what is known of the set that was read, of the round and of its rescue file, where each set
--- stands for these files: the text and the exit status of the round that was led to its end, and the warnings of its files.
+-- stands for these files: the text and the exit status of the round that was led to its end, by the launcher that the options ask for, and the warnings of its files.
 pub record IsRunWhere (says : FileSet → Files) (IsRead : FileSet → Type 0) (sight : RoundSight) (rounds : Rounds)
     (path : List ℕ) (options : RunOptions) (text warnings : List ℕ) (status : ℕ) : Type 0 where
   pub files : FileSet
@@ -69,7 +80,9 @@ pub record IsRunWhere (says : FileSet → Files) (IsRead : FileSet → Type 0) (
   pub is_round : sight.is_round round
   pub rescue : Option (List ℕ)
   pub rescue_is : sight.is_rescue round rescue
-  pub answered : IsAnswerByPlan round.always_post (says files) (entries_of files) path rescue (λ plan. rounds.led path options.limits plan round text status) warnings
+  pub launcher : Launcher
+  pub answered : IsAnswerByPlan round.always_post (says files) (entries_of files) path rescue
+      (λ plan. IsLauncherBy options (count_of plan) launcher × rounds.led path options.limits launcher plan round text status) warnings
 
 -- Of some files, with the rescue file of the round that this is, or without one.
 abbrev pub IsRunOf : Rounds → (path : List ℕ) → RunOptions → (text warnings : List ℕ) → (status : ℕ) → Type 0
@@ -144,8 +157,8 @@ pub data IsRunFaultWhere (says : FileSet → Files) (IsRead : FileSet → Type 0
   no_launcher : (fault : RunFault) → IsPlannedFor says IsRead sight.is_round path → IsLauncherFault options.launcher fault → IsRunFaultWhere says IsRead sight rounds path options fault
   no_room : (fault : RunFault) → IsPlannedFor says IsRead sight.is_round path → IsRoomFault path fault → IsRunFaultWhere says IsRead sight rounds path options fault
   not_alone : (fault : RunFault) → IsPlannedFor says IsRead sight.is_round path → IsRefusalOf (lock_name_of path) fault → IsRunFaultWhere says IsRead sight rounds path options fault
-  not_held : (planned : IsPlannedFor says IsRead sight.is_round path) (fault : RunFault) →
-      IsHeldFault path options planned.round sight.not_found rounds.is_deaf (rounds.stopped path options.limits planned.plan planned.round) fault → IsRunFaultWhere says IsRead sight rounds path options fault
+  not_held : (planned : IsPlannedFor says IsRead sight.is_round path) (launcher : Launcher) (fault : RunFault) → IsLauncherBy options (count_of planned.plan) launcher →
+      IsHeldFault path options planned.round sight.not_found rounds.is_deaf (rounds.stopped path options.limits launcher planned.plan planned.round) fault → IsRunFaultWhere says IsRead sight rounds path options fault
   no_memory : IsRunFaultWhere says IsRead sight rounds path options Memory
 
 -- of some files, and a round that the options ask for

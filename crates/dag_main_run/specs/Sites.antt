@@ -7,6 +7,7 @@ use Rattle.rescue_file.specs.Numbered.{rescue_name_of}
 use Rattle.event_journal.specs.declared.file.FileDisk.{FileDisk}
 use Rattle.event_journal.specs.Files.{file_path}
 use Rattle.throttles.specs.declared.Limits.{Limits}
+use Rattle.job_starter_local.specs.declared.launching.Launcher.{Launcher}
 use Rattle.run_plan.specs.Plan.{Plan}
 use Rattle.recovery_manager.specs.declared.fault.ManagerFault.{ManagerFault}
 use Rattle.recovery_manager.specs.declared.fault.ManagerFault.TheVariants as faults
@@ -49,11 +50,12 @@ abbrev pub journal_found : Files → List ℕ → Round → List ℕ
 journal_found holds top round = bytes_found round.journal (holds (journal_name_of top))
 
 -- What a site knows of its own: which disk is that of the journal of a DAG file, and which that of its rescue file of a number; which calls its
--- children answered, the newest first, with so many that were refused before the first and after the last; and that it isn't told how children end.
+-- children answered that are started by a launcher, the newest first, with so many that were refused before the first and after the last; and that it
+-- isn't told how children end.
 pub record Own (D R : Type 0) : Type 1 where
   pub is_journal : List ℕ → D → Type 0
   pub is_rescue : List ℕ → ℕ → R → Type 0
-  pub answered : List Call → ℕ → ℕ → Type 0
+  pub answered : Launcher → List Call → ℕ → ℕ → Type 0
   pub is_deaf : Type 0
 
 -- What the system knows of its own where paths are seen from this folder: its disks are files, each by its own path; and nothing was refused to its
@@ -62,7 +64,7 @@ abbrev pub own_from : {R F : Type 0} → List ℕ → Own (FileDisk R F) (FileDi
 own_from seat = record {
   is_journal = λ top disk. file_path disk ≡ join seat (journal_name_of top);
   is_rescue = λ top number disk. file_path disk ≡ join seat (rescue_name_of top number);
-  answered = λ calls before now. before ≡ 0;
+  answered = λ launcher calls before now. before ≡ 0;
   is_deaf = Unit {0};
 }
 
@@ -71,7 +73,7 @@ abbrev pub own_somewhere : {R F : Type 0} → Own (FileDisk R F) (FileDisk R F)
 own_somewhere = record {
   is_journal = λ top disk. (seat : List ℕ) × (file_path disk ≡ join seat (journal_name_of top));
   is_rescue = λ top number disk. (seat : List ℕ) × (file_path disk ≡ join seat (rescue_name_of top number));
-  answered = λ calls before now. before ≡ 0;
+  answered = λ launcher calls before now. before ≡ 0;
   is_deaf = Unit {0};
 }
 
@@ -79,24 +81,24 @@ own_somewhere = record {
 pub record IsKnownTo {D R : Type 0} (own known : Own D R) : Type 0 where
   pub journals : (top : List ℕ) (disk : D) → own.is_journal top disk → known.is_journal top disk
   pub rescues : (top : List ℕ) (number : ℕ) (disk : R) → own.is_rescue top number disk → known.is_rescue top number disk
-  pub children : (calls : List Call) (before now : ℕ) → own.answered calls before now → known.answered calls before now
+  pub children : (launcher : Launcher) (calls : List Call) (before now : ℕ) → own.answered launcher calls before now → known.answered launcher calls before now
   pub deaf : own.is_deaf → known.is_deaf
 
--- The disks with which a round is led, and the calls of its children: they are those of the site, and no child is left. Where the site is honest, so are
--- the disks, and that of the journal reads as these files hold it; and it is honest only there.
-pub record IsAtSite {D R : Type 0} (disks : Ghosts D) (rescues : Ghosts R) (own : Own D R) (Honest : Type 0) (holds : Files) (top : List ℕ) (round : Round)
+-- The disks with which a round is led, and the calls of its children, whose jobs this launcher starts: they are those of the site, and no child is left.
+-- Where the site is honest, so are the disks, and that of the journal reads as these files hold it; and it is honest only there.
+pub record IsAtSite {D R : Type 0} (disks : Ghosts D) (rescues : Ghosts R) (own : Own D R) (Honest : Type 0) (holds : Files) (top : List ℕ) (launcher : Launcher) (round : Round)
     (journal : D) (rescue : R) (calls : List Call) (before now : ℕ) : Type 0 where
   pub is_journal : own.is_journal top journal
   pub is_rescue : own.is_rescue top round.next rescue
-  pub answered : own.answered calls before now
+  pub answered : own.answered launcher calls before now
   pub none_left : running calls ≡ []
   pub honest : Honest → disks.honest journal × rescues.honest rescue
   pub found : Honest → disks.seen journal ≡ journal_found holds top round
   pub back : disks.honest journal → Honest
 
--- A round was led to its end at a site, under these limits, and printed this.
+-- A round was led to its end at a site, under these limits and by this launcher, and printed this.
 pub record IsRoundLedAt {D R : Type 0} (disks : Ghosts D) (rescues : Ghosts R) (own : Own D R) (Honest : Type 0) (holds : Files) (top : List ℕ)
-    (limits : Limits) (plan : Plan) (round : Round) (text : List ℕ) (status : ℕ) : Type 0 where
+    (limits : Limits) (launcher : Launcher) (plan : Plan) (round : Round) (text : List ℕ) (status : ℕ) : Type 0 where
   pub journal : D
   pub rescue : R
   pub left : D
@@ -104,7 +106,7 @@ pub record IsRoundLedAt {D R : Type 0} (disks : Ghosts D) (rescues : Ghosts R) (
   pub calls : List Call
   pub before : ℕ
   pub now : ℕ
-  pub at_site : IsAtSite disks rescues own Honest holds top round journal rescue calls before now
+  pub at_site : IsAtSite disks rescues own Honest holds top launcher round journal rescue calls before now
   pub led : IsRoundRun disks rescues plan (start_by round) limits any_ending [] calls journal left rescue text status rest
 
 -- What asks for a halt: the file of the DAG file's name and `.halt`; the option; the DAG file's path, which leads into another folder by now; or the journal,
@@ -142,7 +144,7 @@ pub data IsReturned (top : List ℕ) : DriveFault → RunFault → Type 0 where
 
 -- It was not led to its end there, for one of the causes of a round, and this is returned.
 pub record IsRoundStoppedAt {D R : Type 0} (disks : Ghosts D) (rescues : Ghosts R) (own : Own D R) (Honest : Type 0) (holds : Files) (top : List ℕ)
-    (limits : Limits) (plan : Plan) (round : Round) (fault : RunFault) : Type 0 where
+    (limits : Limits) (launcher : Launcher) (plan : Plan) (round : Round) (fault : RunFault) : Type 0 where
   pub journal : D
   pub rescue : R
   pub left : D
@@ -151,15 +153,15 @@ pub record IsRoundStoppedAt {D R : Type 0} (disks : Ghosts D) (rescues : Ghosts 
   pub before : ℕ
   pub now : ℕ
   pub cause : DriveFault
-  pub at_site : IsAtSite disks rescues own Honest holds top round journal rescue calls before now
+  pub at_site : IsAtSite disks rescues own Honest holds top launcher round journal rescue calls before now
   pub refused : IsRoundRefusal disks rescues before now plan 16777216 (start_by round) limits any_ending [] calls journal left rescue rest cause
   pub returned : IsReturned top cause fault
 
--- What is said of the rounds that are led somewhere, by the path of the DAG file: of one that was led to its end, and printed this; of one that was
--- stopped, and for which this is returned; and that it isn't told there how children end.
+-- What is said of the rounds that are led somewhere, by the path of the DAG file, the limits and the launcher: of one that was led to its end, and printed
+-- this; of one that was stopped, and for which this is returned; and that it isn't told there how children end.
 pub record Rounds : Type 1 where
-  pub led : (top : List ℕ) → Limits → Plan → Round → (text : List ℕ) → (status : ℕ) → Type 0
-  pub stopped : (top : List ℕ) → Limits → Plan → Round → RunFault → Type 0
+  pub led : (top : List ℕ) → Limits → Launcher → Plan → Round → (text : List ℕ) → (status : ℕ) → Type 0
+  pub stopped : (top : List ℕ) → Limits → Launcher → Plan → Round → RunFault → Type 0
   pub is_deaf : Type 0
 
 -- at a site, whose folder holds these files where it is honest

@@ -1,14 +1,5 @@
 -- The file into which the status of a run is written.
-use Rattle.std.specs.Prelude.{◌≡◌, ◌≢◌, ◌≤◌, ◌||◌, ◌++◌, ℕ, Bool, true, false, List, [], ◌∷◌, codes}
-use Rattle.std.specs.Str.{bytes_eq}
-
--- what the names of dagrun's own files have after that of the DAG file, which has nothing there itself; rescue files have a number
-abbrev pub is_fixed_ending : List ℕ → Bool
-is_fixed_ending ending =
-    bytes_eq ending (codes "") || bytes_eq ending (codes ".journal") || bytes_eq ending (codes ".journal.old") || bytes_eq ending (codes ".lock")
-    || bytes_eq ending (codes ".round") || bytes_eq ending (codes ".round.new") || bytes_eq ending (codes ".children") || bytes_eq ending (codes ".inputs")
-    || bytes_eq ending (codes ".inputs.new") || bytes_eq ending (codes ".begun") || bytes_eq ending (codes ".begun.new") || bytes_eq ending (codes ".log")
-    || bytes_eq ending (codes ".log.old") || bytes_eq ending (codes ".halt") || bytes_eq ending (codes ".scripts")
+use Rattle.std.specs.Prelude.{◌≡◌, ◌≢◌, ◌≤◌, ◌++◌, ℕ, Bool, true, false, List, [], ◌∷◌, codes}
 
 -- What may be inside a JSON string from a place on, to its end, where the byte before that place is a backslash that escapes what follows, or is none: no control
 -- character, and no quotation mark but one that is escaped.

@@ -8,6 +8,7 @@ use dag_main_check::RunFault;
 use dag_main_files::{Journaled, LAST_NUMBER, Place, Round, journal_path, rescue_path};
 use dag_reader::Text;
 use event_journal_log::read_journal;
+use log_lines::{read_line, unquoted, whole_lines};
 use node_machine::{Key, Outcome, Record};
 use run_log::RunWatcher;
 use run_plan::Plan;
@@ -44,6 +45,20 @@ fn rescue_read(alloc: Global, place: &Place<'_>, round: &Round) -> Result<Option
     Ok(Some(rescue_path(alloc, place.top, round.used)?))
 }
 
+/// The folder in which the manager before this one was called, by the log, whose last line of a manager is that of this one; none where the log
+/// doesn't say it.
+fn folder_before<R: Files + AllocGlobal>(rt: &R, place: &Place<'_>) -> Option<String> {
+    let alloc = rt.alloc();
+    let path = Text::joined(alloc, place.top, ".log").ok()?;
+    let log = place.read(rt, path.as_str()).ok()??;
+    let life = whole_lines(&log)
+        .rsplit(|byte| *byte == b'\n')
+        .filter_map(|line| read_line(line))
+        .filter(|line| line.event == "life")
+        .nth(1)?;
+    unquoted(alloc, life.detail("folder")?).ok()
+}
+
 /// It shows as the options say how far a round of a plan is.
 pub(crate) fn progress_of<
     'a,
@@ -72,7 +87,9 @@ pub(crate) fn progress_of<
     if round.journal == Journaled::Unfinished {
         // A journal that can't be read, or is of another plan, is refused.
         if before.is_some() {
-            progress.goes_on();
+            let elsewhere = folder_before(&rt, place).filter(|folder| folder.as_str()
+                != place.folder);
+            progress.goes_on(elsewhere.as_ref().map(|folder| folder.as_str()));
         }
     } else {
         if let Ok(rescue) = rescue_read(alloc, place, round) {

@@ -5,12 +5,13 @@ ghost use Rattle.splices_flat.specs.FileSet.{bytes_of, entries_of};
 ghost use Rattle.event_journal_log.specs.Image.{IsRescueNumber};
 ghost use Rattle.dag_main_check.specs.Planned.{IsPlanBy};
 ghost use Rattle.dag_main_files.specs.Beside.{IsRoundBy, IsRescueOf, HasJournal};
-ghost use Rattle.dag_main_files.specs.Folder.{IsRoundFrom, journal_in, rescue_in};
+ghost use Rattle.dag_main_files.specs.Folder.{IsReadFrom, IsRoundFrom, journal_in, rescue_in};
 ghost use Rattle.dag_main_check.specs.Warnings.{warning_lines};
 ghost use Rattle.dag_main_files.specs.Changes.{FileChange};
-ghost use Rattle.dag_main_run.specs.RunChanges.{leads, AreLooks, ChangesAsRound, found_where, IsTried, ChangesAsRun};
-ghost use Rattle.dag_main_run.specs.Sites.{start_by, journal_found, rounds_at, manager_refusal, IsReturned, IsRoundLedAt, IsRoundStoppedAt};
-ghost use Rattle.dag_main_run.specs.Runs.{IsPlannedRun, any_round, held_round, IsRunWhere, IsRunOf, IsRunFrom, IsFindingFault, IsFindingFaultHeld, IsLockedFault, IsFirstRunFault, IsRoundPlanFault, IsStopFault, IsHeldFault, IsRunFaultWhere, IsRunFault, IsRunFaultFrom};
+ghost use Rattle.dag_main_run.specs.RunChanges.{leads, IsLook, AreLooks, ChangesAsRound, found_where, IsPlannedRound, ChangesOnceLocked, ChangesAsRun};
+ghost use Rattle.dag_main_run.specs.Sites.{start_by, journal_found, rounds_at, halt_name, manager_refusal, IsHaltBy, IsReturned, IsRoundLedAt, IsRoundStoppedAt};
+ghost use Rattle.job_starter_drive.specs.declared.driving.DriveFault.TheVariants.{Halted};
+ghost use Rattle.dag_main_run.specs.Runs.{IsFoundRound, IsPlannedRun, any_round, held_round, IsRunWhere, IsRunOf, IsRunFrom, IsFindingFault, IsFindingFaultHeld, IsLockedFault, IsFirstRunFault, IsRoundPlanFault, IsStopFault, IsHeldFault, IsRunFaultWhere, IsRunFault, IsRunFaultFrom};
 
 use crate::beginning::{Inputs, has_own_files, keep_inputs, life_of, watcher_of};
 use crate::halting::{HaltCause, HaltWatcher, halted};
@@ -69,7 +70,8 @@ fn in_manager(fault: ManagerFault) -> RunFault
 
 /// Why the command is refused whose round was stopped; where it was halted, by what asked for that.
 fn in_run(alloc: Global, top: &str, cause: DriveFault, halt: HaltCause) -> RunFault
-    ensures { IsReturned top.now cause result }
+    ensures returned { IsReturned top.now cause result }
+    ensures halted { cause ≡ Halted → IsHaltBy (halt_name top.now halt) result }
 {
     match cause {
         DriveFault::Memory => RunFault::Memory,
@@ -141,9 +143,9 @@ fn led_by<H: Site, W: ChildWatcher + Drop>(
     requires back { H.Journal.honest disks.0 → H.honest site.now }
     requires by_journal { H.honest site.now → HasJournal (journal_in (H.holds site.now) top.now) round.now }
     ensures led { IfOk result (λ report. IsRoundLedAt H.Journal.Disk H.Rescue.Disk (H.own site.now) (H.honest site.now) (H.holds site.now)
-        top.now limits plan.now round.now (string_bytes report.text) report.status) }
+        top.now limits launcher.now plan.now round.now (string_bytes report.text) report.status) }
     ensures refused { IfErr result (λ stop. (fault : RunFault) → IsReturned top.now stop.cause fault →
-        IsRoundStoppedAt H.Journal.Disk H.Rescue.Disk (H.own site.now) (H.honest site.now) (H.holds site.now) top.now limits plan.now round.now fault) }
+        IsRoundStoppedAt H.Journal.Disk H.Rescue.Disk (H.own site.now) (H.honest site.now) (H.holds site.now) top.now limits launcher.now plan.now round.now fault) }
     ensures changes { changes.new ≡ changes.old ++ leads }
 {
     let (journal, rescue) = disks;
@@ -216,9 +218,9 @@ fn led_watched<
     requires back { H.Journal.honest disks.0 → H.honest site.now }
     requires by_journal { H.honest site.now → HasJournal (journal_in (H.holds site.now) place.now.top.now) round.now }
     ensures led { IfOk result (λ report. IsRoundLedAt H.Journal.Disk H.Rescue.Disk (H.own site.now) (H.honest site.now) (H.holds site.now)
-        place.now.top.now limits plan.now round.now (string_bytes report.text) report.status) }
+        place.now.top.now limits launcher.now plan.now round.now (string_bytes report.text) report.status) }
     ensures refused { IfErr result (IsRoundStoppedAt H.Journal.Disk H.Rescue.Disk (H.own site.now) (H.honest site.now) (H.holds site.now)
-        place.now.top.now limits plan.now round.now) }
+        place.now.top.now limits launcher.now plan.now round.now) }
     ensures changes { changes.new ≡ changes.old ++ leads }
 {
     let mut watcher = watcher;
@@ -271,11 +273,12 @@ fn run_on<R: Processes + Files<File = File> + Clock + Screen + AllocGlobal + Cop
     requires honest { H.honest site.now → H.Rescue.honest disks.1 }
     requires by_journal { H.honest site.now → HasJournal (journal_in (H.holds site.now) place.now.top.now) round.now }
     ensures led { IfOk result (λ report. IsRoundLedAt H.Journal.Disk H.Rescue.Disk (H.own site.now) (H.honest site.now) (H.holds site.now)
-        place.now.top.now options.now.limits plan.now round.now (string_bytes report.text) report.status) }
+        place.now.top.now options.now.limits launcher.now plan.now round.now (string_bytes report.text) report.status) }
     ensures refused { IfErr result (IsStopFault place.now.top.now options.now round.now (H.own site.now).is_deaf (IsRoundStoppedAt H.Journal.Disk H.Rescue.Disk (H.own site.now) (H.honest site.now)
-        (H.holds site.now) place.now.top.now options.now.limits plan.now round.now)) }
-    ensures changes { ChangesAsRound result place.now.top.now plan.now.digest (entries_of inputs.entry.files.now) (option_map (λ b. b.now) inputs.entry.rescue)
-        round.now changes.old changes.new }
+        (H.holds site.now) place.now.top.now options.now.limits launcher.now plan.now round.now)) }
+    ensures changes { ChangesAsRound result (IsRoundStoppedAt H.Journal.Disk H.Rescue.Disk (H.own site.now) (H.honest site.now) (H.holds site.now)
+        place.now.top.now options.now.limits launcher.now plan.now round.now) place.now.top.now plan.now.digest (entries_of inputs.entry.files.now)
+        (option_map (λ b. b.now) inputs.entry.rescue) round.now changes.old changes.new }
 {
     if site.is_deaf() {
         return Err(RunFault::WaitFault);
@@ -333,11 +336,12 @@ fn run_planned<
     requires next { IsRescueNumber round.now.next }
     requires by_journal { H.honest site.now → HasJournal (journal_in (H.holds site.now) place.now.top.now) round.now }
     ensures led { IfOk result (λ report. IsRoundLedAt H.Journal.Disk H.Rescue.Disk (H.own site.now) (H.honest site.now) (H.holds site.now)
-        place.now.top.now options.now.limits plan.now round.now (string_bytes report.text) report.status) }
+        place.now.top.now options.now.limits launcher.now plan.now round.now (string_bytes report.text) report.status) }
     ensures refused { IfErr result (IsStopFault place.now.top.now options.now round.now (H.own site.now).is_deaf (IsRoundStoppedAt H.Journal.Disk H.Rescue.Disk (H.own site.now) (H.honest site.now)
-        (H.holds site.now) place.now.top.now options.now.limits plan.now round.now)) }
-    ensures changes { ChangesAsRound result place.now.top.now plan.now.digest (entries_of inputs.entry.files.now) (option_map (λ b. b.now) inputs.entry.rescue)
-        round.now changes.old changes.new }
+        (H.holds site.now) place.now.top.now options.now.limits launcher.now plan.now round.now)) }
+    ensures changes { ChangesAsRound result (IsRoundStoppedAt H.Journal.Disk H.Rescue.Disk (H.own site.now) (H.honest site.now) (H.holds site.now)
+        place.now.top.now options.now.limits launcher.now plan.now round.now) place.now.top.now plan.now.digest (entries_of inputs.entry.files.now)
+        (option_map (λ b. b.now) inputs.entry.rescue) round.now changes.old changes.new }
 {
     let rescue = site.rescue_disk(place.top, round.next)?;
     let journal = site.journal_disk(place.top)?;
@@ -366,12 +370,8 @@ fn round_with_rescue<R: Files<File = File> + AllocGlobal + Copy + Drop, F: Folde
     place: &Place<'_>,
     options: &RunOptions,
 ) -> Result<(Round, Option<Vec<u8>>), RunFault>
-    ensures held { F.honest folder.now → IfOk result (λ found. IsRoundFrom (F.holds folder.now) (F.has folder.now) place.now.top.now
-        options.now.autorescue options.now.dorescuefrom options.now.always_post found.0
-        × (option_map (λ b. b.items) found.1 ≡ rescue_in (F.holds folder.now) place.now.top.now found.0.used)) }
-    ensures numbers { IfOk result (λ found. IsRescueNumber found.0.next × (found.0.used ≤ 999)) }
-    ensures by { IfOk result (λ found. IsRoundBy options.now.autorescue options.now.dorescuefrom options.now.always_post found.0) }
-    ensures rescue { IfOk result (λ found. IsRescueOf found.0 (option_map (λ b. b.items) found.1)) }
+    ensures found { IfOk result (λ found. IsFoundRound (F.honest folder.now) (F.holds folder.now) (F.has folder.now) place.now.top.now options.now
+        found.0 (option_map (λ b. b.items) found.1)) }
     ensures refused { IfErr result (IsFindingFault place.now.top.now options.now) }
     ensures refused_held { F.honest folder.now → IfErr result (IsFindingFaultHeld (F.holds folder.now) (F.has folder.now) place.now.top.now options.now) }
 {
@@ -403,16 +403,12 @@ fn first_look<R: Files<File = File> + Clock + AllocGlobal + Copy + Drop, F: Fold
     options: &RunOptions,
     changes: &mut Changes,
 ) -> Result<(Round, Option<Vec<u8>>), RunFault>
-    ensures held { F.honest folder.now → IfOk result (λ found. IsRoundFrom (F.holds folder.now) (F.has folder.now) place.now.top.now
-        options.now.autorescue options.now.dorescuefrom options.now.always_post found.0
-        × (option_map (λ b. b.items) found.1 ≡ rescue_in (F.holds folder.now) place.now.top.now found.0.used)) }
-    ensures numbers { IfOk result (λ found. IsRescueNumber found.0.next × (found.0.used ≤ 999)) }
-    ensures by { IfOk result (λ found. IsRoundBy options.now.autorescue options.now.dorescuefrom options.now.always_post found.0) }
-    ensures rescue { IfOk result (λ found. IsRescueOf found.0 (option_map (λ b. b.items) found.1)) }
+    ensures found { IfOk result (λ found. IsFoundRound (F.honest folder.now) (F.holds folder.now) (F.has folder.now) place.now.top.now options.now
+        found.0 (option_map (λ b. b.items) found.1)) }
     ensures refused { IfErr result (IsFirstRunFault place.now.top.now (IsFindingFault place.now.top.now options.now)) }
     ensures refused_held { F.honest folder.now → IfErr result (IsFirstRunFault place.now.top.now
         (IsFindingFaultHeld (F.holds folder.now) (F.has folder.now) place.now.top.now options.now)) }
-    ensures changes { (looks : List FileChange) × AreLooks place.now.top.now looks × (changes.new ≡ changes.old ++ looks) }
+    ensures changes { (look : List FileChange) × IsLook place.now.top.now look × (changes.new ≡ changes.old ++ look) }
 {
     has_own_files(&rt, place, options.trust_owner)?;
     match round_with_rescue(rt, folder, place, options) {
@@ -434,16 +430,12 @@ fn look_locked<R: Files<File = File> + Clock + AllocGlobal + Copy + Drop, F: Fol
     options: &RunOptions,
     changes: &mut Changes,
 ) -> Result<(Round, Option<Vec<u8>>), RunFault>
-    ensures held { F.honest folder.now → IfOk result (λ found. IsRoundFrom (F.holds folder.now) (F.has folder.now) place.now.top.now
-        options.now.autorescue options.now.dorescuefrom options.now.always_post found.0
-        × (option_map (λ b. b.items) found.1 ≡ rescue_in (F.holds folder.now) place.now.top.now found.0.used)) }
-    ensures numbers { IfOk result (λ found. IsRescueNumber found.0.next × (found.0.used ≤ 999)) }
-    ensures by { IfOk result (λ found. IsRoundBy options.now.autorescue options.now.dorescuefrom options.now.always_post found.0) }
-    ensures rescue { IfOk result (λ found. IsRescueOf found.0 (option_map (λ b. b.items) found.1)) }
+    ensures found { IfOk result (λ found. IsFoundRound (F.honest folder.now) (F.holds folder.now) (F.has folder.now) place.now.top.now options.now
+        found.0 (option_map (λ b. b.items) found.1)) }
     ensures refused { IfErr result (IsLockedFault place.now.top.now (IsFindingFault place.now.top.now options.now)) }
     ensures refused_held { F.honest folder.now → IfErr result (IsLockedFault place.now.top.now
         (IsFindingFaultHeld (F.holds folder.now) (F.has folder.now) place.now.top.now options.now)) }
-    ensures changes { (looks : List FileChange) × AreLooks place.now.top.now looks × (changes.new ≡ changes.old ++ looks) }
+    ensures changes { (look : List FileChange) × IsLook place.now.top.now look × (changes.new ≡ changes.old ++ look) }
 {
     place.has_room_for_names(rt.alloc())?;
     let lock = place.lock(&rt, changes)?;
@@ -480,16 +472,18 @@ fn run_locked<
 ) -> Result<Answer, RunFault>
     requires next { IsRescueNumber found.now.0.next }
     ensures led { IfOk result (λ answer. IsRoundLedAt H.Journal.Disk H.Rescue.Disk (H.own site.now) (H.honest site.now) (H.holds site.now)
-        place.now.top.now options.now.limits plan.now found.now.0 (string_bytes answer.text) answer.status) }
+        place.now.top.now options.now.limits launcher.now plan.now found.now.0 (string_bytes answer.text) answer.status) }
     ensures warnings { IfOk result (λ answer. string_bytes answer.warnings ≡ warning_lines plan.now.graph.dag.warnings) }
     ensures refused { IfErr result (IsHeldFault place.now.top.now options.now found.now.0 (IsFindingFault place.now.top.now options.now) (H.own site.now).is_deaf
         (IsRoundStoppedAt H.Journal.Disk H.Rescue.Disk (H.own site.now)
-        (H.honest site.now) (H.holds site.now) place.now.top.now options.now.limits plan.now found.now.0)) }
+        (H.honest site.now) (H.holds site.now) place.now.top.now options.now.limits launcher.now plan.now found.now.0)) }
     ensures refused_held { H.honest site.now → IfErr result (IsHeldFault place.now.top.now options.now found.now.0
         (IsFindingFaultHeld (H.holds site.now) (H.has site.now) place.now.top.now options.now) (H.own site.now).is_deaf
         (IsRoundStoppedAt H.Journal.Disk H.Rescue.Disk (H.own site.now)
-        (H.honest site.now) (H.holds site.now) place.now.top.now options.now.limits plan.now found.now.0)) }
-    ensures changes { ChangesAsRound result place.now.top.now plan.now.digest (entries_of files.now) (option_map (λ b. b.items) found.now.1) found.now.0 changes.old changes.new }
+        (H.honest site.now) (H.holds site.now) place.now.top.now options.now.limits launcher.now plan.now found.now.0)) }
+    ensures changes { ChangesAsRound result (IsRoundStoppedAt H.Journal.Disk H.Rescue.Disk (H.own site.now) (H.honest site.now) (H.holds site.now)
+        place.now.top.now options.now.limits launcher.now plan.now found.now.0) place.now.top.now plan.now.digest (entries_of files.now)
+        (option_map (λ b. b.items) found.now.1) found.now.0 changes.old changes.new }
 {
     let alloc = rt.alloc();
     let (round, rescue) = found;
@@ -515,11 +509,18 @@ fn run_locked<
 /// How many files are read one by one that came while others were read; far more than a DAG has.
 const MOST_COME: usize = 1 << 20;
 
-/// Runs the DAG file of this path with these files.
+/// A round that is planned: its plan, the round, and the bytes of its rescue file.
+#[derive(Drop)]
+struct Planned {
+    plan: Plan,
+    found: (Round, Option<Vec<u8>>),
+}
+
+/// Plans the round of the DAG file of this path by these files, as it is found before the lock is taken.
 ///
 /// # Errors
-/// As `run_dag` has them from the faults of the files on.
-fn run_files<
+/// As `run_dag` has them, from the faults of the files to those of the rescue file.
+fn planned_by<
     R: Processes + Files<File = File> + Clock + Screen + AllocGlobal + Copy + Drop,
     H: Site,
 >(
@@ -529,15 +530,11 @@ fn run_files<
     files: &FileSet,
     options: &RunOptions,
     changes: &mut Changes,
-) -> Result<Answer, RunFault>
-    ensures run { IfOk result (λ answer. IsRunWhere bytes_of (λ set. set ≡ files.now)
-        (any_round place.now.top.now options.now)
-        (rounds_at H.Journal.Disk H.Rescue.Disk (H.own site.now) (H.honest site.now) (H.holds site.now))
-        place.now.top.now options.now (string_bytes answer.text) (string_bytes answer.warnings) answer.status) }
-    ensures held { H.honest site.now → IfOk result (λ answer. IsRunWhere bytes_of (λ set. set ≡ files.now)
-        (held_round (H.holds site.now) (H.has site.now) place.now.top.now options.now)
-        (rounds_at H.Journal.Disk H.Rescue.Disk (H.own site.now) (H.honest site.now) (H.holds site.now))
-        place.now.top.now options.now (string_bytes answer.text) (string_bytes answer.warnings) answer.status) }
+) -> Result<Planned, RunFault>
+    requires read { H.honest site.now → IsReadFrom (H.holds site.now) place.now.top.now files.now }
+    ensures planned { IfOk result (λ planned. IsPlannedRound (found_where (H.honest site.now) (H.holds site.now) (H.has site.now) place.now.top.now options.now)
+        place.now.top.now options.now files.now planned.found.0 (option_map (λ b. b.items) planned.found.1) planned.plan) }
+    ensures next { IfOk result (λ planned. IsRescueNumber planned.found.0.next) }
     ensures refused { IfErr result (IsRunFaultWhere bytes_of (λ set. set ≡ files.now)
         (any_round place.now.top.now options.now)
         (rounds_at H.Journal.Disk H.Rescue.Disk (H.own site.now) (H.honest site.now) (H.holds site.now))
@@ -546,17 +543,100 @@ fn run_files<
         (held_round (H.holds site.now) (H.has site.now) place.now.top.now options.now)
         (rounds_at H.Journal.Disk H.Rescue.Disk (H.own site.now) (H.honest site.now) (H.holds site.now))
         place.now.top.now options.now) }
-    ensures changes { IsTried result (found_where (H.honest site.now) (H.holds site.now) (H.has site.now) place.now.top.now options.now) place.now.top.now options.now files.now changes.old changes.new }
+    ensures changes { (look : List FileChange) × IsLook place.now.top.now look × (changes.new ≡ changes.old ++ look) }
 {
     let alloc = rt.alloc();
     let graph = graph_of(alloc, files, place.top)?;
     let found = first_look(rt, site, place, options, changes)?;
     let plan = plan_of_round(alloc, place, files, graph, &found.0, found.1.as_deref())?;
-    let launcher = launcher_of(&rt, place.folder, &plan, options)?;
-    place.has_room_for_names(alloc)?;
+    Ok(Planned { plan, found })
+}
+
+/// The same, with each file read that was missing at first and has come meanwhile.
+///
+/// # Errors
+/// As `planned_by`, of the files as they are then.
+fn planned_at_last<
+    R: Processes + Files<File = File> + Clock + Screen + AllocGlobal + Copy + Drop,
+    H: Site,
+>(
+    rt: R,
+    site: &H,
+    place: &Place<'_>,
+    files: &mut FileSet,
+    options: &RunOptions,
+    changes: &mut Changes,
+) -> Result<Planned, RunFault>
+    requires read { H.honest site.now → IsReadFrom (H.holds site.now) place.now.top.now files.old }
+    ensures planned { IfOk result (λ planned. IsPlannedRound (found_where (H.honest site.now) (H.holds site.now) (H.has site.now) place.now.top.now options.now)
+        place.now.top.now options.now files.new planned.found.0 (option_map (λ b. b.items) planned.found.1) planned.plan) }
+    ensures next { IfOk result (λ planned. IsRescueNumber planned.found.0.next) }
+    ensures refused { IfErr result (IsRunFault
+        (rounds_at H.Journal.Disk H.Rescue.Disk (H.own site.now) (H.honest site.now) (H.holds site.now))
+        place.now.top.now options.now) }
+    ensures refused_held { H.honest site.now → IfErr result (IsRunFaultFrom (H.holds site.now) (H.has site.now)
+        (rounds_at H.Journal.Disk H.Rescue.Disk (H.own site.now) (H.honest site.now) (H.holds site.now))
+        place.now.top.now options.now) }
+    ensures changes { (looks : List FileChange) × AreLooks place.now.top.now looks × (changes.new ≡ changes.old ++ looks) }
+{
+    for _ in 0..MOST_COME {
+        match planned_by(rt, site, place, files, options, changes) {
+            Ok(planned) => return Ok(planned),
+            Err(fault) => read_missing(rt.alloc(), site, files, fault)?,
+        }
+    }
+    Err(RunFault::Memory)
+}
+
+/// Leads a round that is planned by these files, under the lock, and answers what is printed.
+///
+/// # Errors
+/// As `run_dag` has them from the launcher on.
+fn run_made<
+    R: Processes + Files<File = File> + Clock + Screen + AllocGlobal + Copy + Drop,
+    H: Site,
+>(
+    rt: R,
+    site: &H,
+    place: &Place<'_>,
+    files: &FileSet,
+    made: &Planned,
+    options: &RunOptions,
+    changes: &mut Changes,
+) -> Result<Answer, RunFault>
+    requires planned { IsPlannedRound (found_where (H.honest site.now) (H.holds site.now) (H.has site.now) place.now.top.now options.now)
+        place.now.top.now options.now files.now made.now.found.0 (option_map (λ b. b.items) made.now.found.1) made.now.plan }
+    requires next { IsRescueNumber made.now.found.0.next }
+    ensures run { IfOk result (λ answer. IsRunOf
+        (rounds_at H.Journal.Disk H.Rescue.Disk (H.own site.now) (H.honest site.now) (H.holds site.now))
+        place.now.top.now options.now (string_bytes answer.text) (string_bytes answer.warnings) answer.status) }
+    ensures held { H.honest site.now → IfOk result (λ answer. IsRunFrom (H.holds site.now) (H.has site.now)
+        (rounds_at H.Journal.Disk H.Rescue.Disk (H.own site.now) (H.honest site.now) (H.holds site.now))
+        place.now.top.now options.now (string_bytes answer.text) (string_bytes answer.warnings) answer.status) }
+    ensures refused { IfErr result (IsRunFault
+        (rounds_at H.Journal.Disk H.Rescue.Disk (H.own site.now) (H.honest site.now) (H.holds site.now))
+        place.now.top.now options.now) }
+    ensures refused_held { H.honest site.now → IfErr result (IsRunFaultFrom (H.holds site.now) (H.has site.now)
+        (rounds_at H.Journal.Disk H.Rescue.Disk (H.own site.now) (H.honest site.now) (H.holds site.now))
+        place.now.top.now options.now) }
+    ensures changes { ChangesOnceLocked result (found_where (H.honest site.now) (H.holds site.now) (H.has site.now) place.now.top.now options.now)
+        (rounds_at H.Journal.Disk H.Rescue.Disk (H.own site.now) (H.honest site.now) (H.holds site.now))
+        place.now.top.now options.now changes.old changes.new }
+{
+    let launcher = launcher_of(&rt, place.folder, &made.plan, options)?;
+    place.has_room_for_names(rt.alloc())?;
     let mut lock = place.lock(&rt, changes)?;
     let answer = run_locked(
-        rt, site, place, files, &plan, &found, options, &launcher, &mut lock, changes,
+        rt,
+        site,
+        place,
+        files,
+        &made.plan,
+        &made.found,
+        options,
+        &launcher,
+        &mut lock,
+        changes,
     );
     place.unlock(&rt, lock, changes);
     answer
@@ -619,16 +699,12 @@ pub fn run_dag<
     ensures refused_held { ¬ (H.streams site.now) → H.honest site.now → IfErr result (IsRunFaultFrom (H.holds site.now) (H.has site.now)
         (rounds_at H.Journal.Disk H.Rescue.Disk (H.own site.now) (H.honest site.now) (H.holds site.now))
         place.now.top.now options.now) }
-    // What it changes beside the DAG file, under the lock alone, and in which order.
-    ensures changes { ChangesAsRun result (found_where (H.honest site.now) (H.holds site.now) (H.has site.now) place.now.top.now options.now) place.now.top.now options.now changes.old changes.new }
+    // What it changes beside the DAG file, under the lock alone, and in which order; and how far that went where it is refused.
+    ensures changes { ChangesAsRun result (found_where (H.honest site.now) (H.holds site.now) (H.has site.now) place.now.top.now options.now)
+        (rounds_at H.Journal.Disk H.Rescue.Disk (H.own site.now) (H.honest site.now) (H.holds site.now))
+        place.now.top.now options.now changes.old changes.new }
 {
-    let alloc = rt.alloc();
-    let mut files = files_of(alloc, site, place.top, Reading::SubmitFilesToo)?;
-    for _ in 0..MOST_COME {
-        match run_files(rt, site, place, &files, options, changes) {
-            Ok(answer) => return Ok(answer),
-            Err(fault) => read_missing(alloc, site, &mut files, fault)?,
-        }
-    }
-    Err(RunFault::Memory)
+    let mut files = files_of(rt.alloc(), site, place.top, Reading::SubmitFilesToo)?;
+    let made = planned_at_last(rt, site, place, &mut files, options, changes)?;
+    run_made(rt, site, place, &files, &made, options, changes)
 }

@@ -95,8 +95,8 @@ pub trait Site: Folder {
         // What is put away, and in which order; only that.
         ensures changes { (numbers : List ℕ) × AreHigher round.now.used numbers × Makes result (readies top.now round.now numbers) changes.old changes.new };
 
-    /// Leads a round to its end on these disks, with children of this site, which inherit the identity of the round and of which the
-    /// watcher is informed. None is left as it returns.
+    /// Leads a round to its end on these disks, with children of this site, whose jobs the launcher starts. They inherit the identity of the
+    /// round, and the watcher is informed of them. None is left as it returns.
     ///
     /// # Errors
     /// Those of `run_round`.
@@ -116,10 +116,10 @@ pub trait Site: Folder {
         (Self::Journal, (Option<Self::Rescue>, DriveFault)),
     >
         requires fits { Self.Journal.honest journal → FitsIn start (Self.Journal.seen journal) }
-        ensures led { IfOk result (λ ended. (calls : List Call) × (before : ℕ) × (now : ℕ) × (own self.now).answered calls before now × (running calls ≡ [])
+        ensures led { IfOk result (λ ended. (calls : List Call) × (before : ℕ) × (now : ℕ) × (own self.now).answered launcher.now calls before now × (running calls ≡ [])
             × IsRoundRun Self.Journal.Disk Self.Rescue.Disk plan.now start limits any_ending [] calls
             journal ended.0 rescue (string_bytes ended.1.text) ended.1.status ended.1.rescue) }
-        ensures refused { IfErr result (λ e. (calls : List Call) × (before : ℕ) × (now : ℕ) × (own self.now).answered calls before now × (running calls ≡ [])
+        ensures refused { IfErr result (λ e. (calls : List Call) × (before : ℕ) × (now : ℕ) × (own self.now).answered launcher.now calls before now × (running calls ≡ [])
             × IsRoundRefusal Self.Journal.Disk Self.Rescue.Disk before now plan.now 16777216 start limits any_ending [] calls
             journal e.0 rescue e.1.0 e.1.1) }
         ensures stops { IfErr result (λ e. MayStop e.1.1) }

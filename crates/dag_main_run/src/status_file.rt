@@ -2,7 +2,7 @@
 
 ghost use Rattle.std.specs.Prelude.{◌≡◌, ◌≢◌, ◌≤◌, ◌<◌, ◌⊎◌, ◌++◌, ◌∷◌, ℕ, List, length, true, false, codes, Some, IfErr};
 ghost use Rattle.dag_main_files.specs.Beside.{IsRefusalOf};
-ghost use Rattle.dag_main_run.specs.StatusFile.{is_fixed_ending, BeginAlike, IsAfterPath, IsInside};
+ghost use Rattle.dag_main_run.specs.StatusFile.{BeginAlike, IsAfterPath, IsInside};
 ghost use Rattle.dag_main_run.specs.declared.status_file.Extent.TheVariants.{Whole};
 
 use dag_main_args::RunOptions;
@@ -11,6 +11,7 @@ use dag_main_files::{Place, journal_path, refused};
 use dag_main_inspect::json_of_status;
 use dag_reader::Text;
 use event_journal::require_regular;
+use file_hints::is_own_ending;
 use run_log::seat_of;
 use run_plan::Plan;
 use std::alloc::Global;
@@ -40,53 +41,6 @@ pub(crate) struct StatusWatcher<'a, R: Drop> {
     every: Duration,
     /// when it was written last, by the time since an arbitrary start
     last: Option<Duration>,
-}
-
-/// Whether a name that goes on with this after that of the DAG file is its own, or that of one of dagrun's own files, of which rescue
-/// files are apart.
-fn is_fixed_ending(ending: &str) -> bool
-    ensures { result ≡ is_fixed_ending ending.now }
-{
-    matches!(
-        ending,
-        "" | ".journal"
-            | ".journal.old"
-            | ".lock"
-            | ".round"
-            | ".round.new"
-            | ".children"
-            | ".inputs"
-            | ".inputs.new"
-            | ".begun"
-            | ".begun.new"
-            | ".log"
-            | ".log.old"
-            | ".halt"
-            | ".scripts"
-    )
-}
-
-/// Whether a name that goes on with this after that of the DAG file is that of a rescue file, of its draft, or of one that was put away.
-fn is_rescue_ending(ending: &str) -> bool {
-    let Some(number) = ending.strip_prefix(".rescue") else {
-        return false;
-    };
-    match number.as_bytes() {
-        [hundreds, tens, units, rest @ ..] => {
-            let is_number = hundreds.is_ascii_digit()
-                && tens.is_ascii_digit()
-                && units.is_ascii_digit();
-            is_number && matches!(rest, b"" | b".new" | b".old")
-        }
-        _ => false,
-    }
-}
-
-/// Whether a name that goes on with this after that of the DAG file is its own, or that of one of dagrun's own files.
-fn is_own_ending(ending: &str) -> bool
-    ensures { is_fixed_ending ending.now ≡ true → result ≡ true }
-{
-    is_fixed_ending(ending) || is_rescue_ending(ending)
 }
 
 /// The folder of a path, and its name there.

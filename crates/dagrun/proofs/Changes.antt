@@ -1,106 +1,161 @@
 -- What commands change, by what is known of the files.
-use Rattle.std.proofs.Common.{◌≡◌, ℕ, Bool, false, List, [], Option, Result, Ok, Err, inl, refl, sym, subst}
-use Rattle.std.specs.Prelude.{IsErr, IsErrAnd, IfOk}
+use Rattle.std.proofs.Common.{◌≡◌, ℕ, Bool, true, false, List, [], Option, Result, Ok, Err, refl, sym, subst, append-nil}
+use Rattle.std.specs.Prelude.{IsErr, IsErrAnd, IfOk, IsTrue, is_some}
 use Rattle.splices_flat.specs.Opening.{Files}
+use Rattle.splices_flat.specs.declared.file_set.FileSet.{FileSet}
 use Rattle.dag_main_args.specs.Requests.{Asked, runs, salvages, redoes, checks, rehearses, views, shows}
 use Rattle.dag_main_args.specs.declared.request.RunOptions.{RunOptions}
 use Rattle.dag_main_check.specs.declared.warnings.Answer.{Answer}
 use Rattle.dag_main_check.specs.declared.fault.RunFault.{RunFault}
 use Rattle.dag_main_files.specs.declared.rounds.Round.{Round}
-use Rattle.dag_main_files.specs.Folder.{IsRoundFrom, rescue_in}
+use Rattle.dag_main_files.specs.Folder.{IsReadFrom, IsRoundFrom, any_paths, rescue_in}
+use Rattle.dag_main_files.specs.Opened.{changing}
 use Rattle.dag_main_files.specs.Changes.{FileChange}
-use Rattle.dag_main_files.proofs.Makes.{begun-none}
-use Rattle.dag_main_run.specs.RunChanges.{found_where, ChangesAsRun, refused_at_last, none_refused}
-use Rattle.dag_main_run.proofs.RunChanges.{MakesAs, ok-as-ok, makes-if-refused, is-refused, run-as}
-use Rattle.salvage.specs.Changes.{SalvagesInPart}
-use Rattle.redo.specs.Changes.{MakesRedo, not_locked, not_all_made}
+use Rattle.dag_main_run.specs.Sites.{Rounds}
+use Rattle.dag_main_run.specs.RunChanges.{found_where, no_looks, left_unlocked}
+use Rattle.dag_main_run.proofs.RunChanges.{MakesAs, ok-as-ok, is-refused, run-as}
+use Rattle.salvage.specs.Changes.{IsRescueMade, IsRescueMadeIf, LeavesSalvage, salvage_not_begun}
+use Rattle.salvage.specs.Faults.{fault_text}
+use Rattle.salvage.specs.declared.fault.SalvageFault.{SalvageFault}
+use Rattle.salvage.specs.declared.fault.SalvageFault.TheVariants.{Refused}
+use Rattle.salvage.proofs.SalvageChanges.{own-writes-nothing, nothing-for-any, leaves-as}
+use Rattle.redo.specs.Changes.{MakesRedo, redo_not_begun}
 use Rattle.dagrun.specs.Answered.{is_beside}
-use Rattle.dagrun.specs.Changes.{ChangesOfRun, only_reported, ran, ChangesOfSalvage, salvage_left, salvage_refused, ChangesAs}
-
--- what is known of the round that is found
-abbrev pub Knows : Type 1
-Knows = (top : List ℕ) → RunOptions → Round → Option (List ℕ) → Type 0
+use Rattle.dagrun.proofs.Worlds.{AreToldAs}
+use Rattle.dagrun.specs.Changes.{RunKnowledge, ChangesOfRun, only_reported, ran, ran_untold, ChangesOfSalvage, salvage_left, salvage_refused, ChangesAs}
 
 -- it is known by other words
-abbrev pub KnowsAs : Knows → Knows → Type 0
-KnowsAs Found Other = (top : List ℕ) (options : RunOptions) (round : Round) (rescue : Option (List ℕ)) → Found top options round rescue → Other top options round rescue
+abbrev pub KnowsAs : RunKnowledge → RunKnowledge → Type 0
+KnowsAs Found Other = (top : List ℕ) (options : RunOptions) (files : FileSet) (round : Round) (rescue : Option (List ℕ)) → Found top options files round rescue
+    → Other top options files round rescue
 
 -- what a folder holds is what its host holds
 pub found-at : (Here Host : Type 0) (holds other : Files) (has others : List ℕ → Bool) → (Host → Here) → (Host → holds ≡ other) → (Host → has ≡ others)
     → KnowsAs (found_where Here holds has) (found_where Host other others)
-found-at Here Host holds other has others honest held there top options round rescue found = λ host.
-    subst (λ (f : Files). IsRoundFrom f others top options.autorescue options.dorescuefrom options.always_post round × (rescue ≡ rescue_in f top round.used)) (held host)
-    (subst (λ (h : List ℕ → Bool). IsRoundFrom holds h top options.autorescue options.dorescuefrom options.always_post round × (rescue ≡ rescue_in holds top round.used)) (there host)
+found-at Here Host holds other has others honest held there top options files round rescue found = λ host.
+    subst (λ (f : Files). IsReadFrom f top files × IsRoundFrom f others top options.autorescue options.dorescuefrom options.always_post round × (rescue ≡ rescue_in f top round.used)) (held host)
+    (subst (λ (h : List ℕ → Bool). IsReadFrom holds top files × IsRoundFrom holds h top options.autorescue options.dorescuefrom options.always_post round × (rescue ≡ rescue_in holds top round.used)) (there host)
     (found (honest host)))
 
 -- a run by another result, known by other words
-pub run-of : (result other : Result Answer RunFault) (Found Other : Round → Option (List ℕ) → Type 0)
-    → ((round : Round) (rescue : Option (List ℕ)) → Found round rescue → Other round rescue) → MakesAs result other → (IsErr result → IsErr other)
-    → (top : List ℕ) (options : RunOptions) (before now : List FileChange)
-    → ChangesOfRun Found top options result before now → ChangesOfRun Other top options other before now
-run-of result other Found Other knows makes err top options before now (only_reported asked same) = only_reported asked same
-run-of result other Found Other knows makes err top options before now (ran changes) = ran (run-as result other Found Other knows makes err top options before now changes)
+run-of : (result other : Result Answer RunFault) (Found Other : RunKnowledge) → KnowsAs Found Other → (rounds others : Rounds) → AreToldAs rounds others → MakesAs result other
+    → (IsErr result → IsErr other) → (top : List ℕ) (options : RunOptions) (before now : List FileChange)
+    → ChangesOfRun Found rounds top options result before now → ChangesOfRun Other others top options other before now
+run-of result other Found Other knows rounds others told makes err top options before now (only_reported asked same) = only_reported asked same
+run-of result other Found Other knows rounds others told makes err top options before now (ran changes) =
+    ran (run-as result other (Found top options) (Other top options) rounds others (knows top options) told.stopped makes err top options before now changes)
+run-of result other Found Other knows rounds others told makes err top options before now (ran_untold answer asked refused changes) =
+    ran_untold answer asked (err refused)
+    (run-as {A = Answer} {B = Answer} (Ok answer) (Ok answer) (Found top options) (Other top options) rounds others (knows top options) told.stopped (ok-as-ok answer answer) (λ e. e) top options before now changes)
+
+-- what is told of rounds is told of them
+told-same : (rounds : Rounds) → AreToldAs rounds rounds
+told-same rounds = record {
+  led = λ top limits launcher plan round text status is. is;
+  stopped = λ top limits launcher plan round fault is. is;
+  deaf = λ is. is;
+}
+
+same-known : (Found : RunKnowledge) → KnowsAs Found Found
+same-known Found top options files round rescue found = found
+
+same-made : (result : Result Answer RunFault) → MakesAs result result
+same-made result top digest files rescue round steps Stopped made is = is
 
 -- what a command changes, known by other words
-pub known-as : (Found Other : Knows) → KnowsAs Found Other → (asked : Asked) (result : Result Answer RunFault) (before now : List FileChange)
-    → ChangesAs Found asked result before now → ChangesAs Other asked result before now
-known-as Found Other knows (runs path options) result before now changes =
-    run-of result result (Found path options) (Other path options) (knows path options) (λ whole b n m. m) (λ e. e) path options before now changes
-known-as Found Other knows (salvages path ended trust_owner) result before now changes = changes
-known-as Found Other knows (redoes path nodes only trust_owner) result before now changes = changes
-known-as Found Other knows (checks path all json hinted) result before now changes = changes
-known-as Found Other knows (rehearses path outcomes limits always_post) result before now changes = changes
-known-as Found Other knows (views path shown begun trust_owner) result before now changes = changes
-known-as Found Other knows (shows page) result before now changes = changes
+pub known-as : (Found Other : RunKnowledge) (rounds others : Rounds) → KnowsAs Found Other → AreToldAs rounds others → (asked : Asked) (result : Result Answer RunFault)
+    (before now : List FileChange) → ChangesAs Found rounds asked result before now → ChangesAs Other others asked result before now
+known-as Found Other rounds others knows told (runs path options) result before now changes =
+    run-of result result Found Other knows rounds others told (same-made result) (λ e. e) path options before now changes
+known-as Found Other rounds others knows told (salvages path ended trust_owner) result before now changes = changes
+known-as Found Other rounds others knows told (redoes path nodes only begun trust_owner) result before now changes = changes
+known-as Found Other rounds others knows told (checks path all json hinted) result before now changes = changes
+known-as Found Other rounds others knows told (rehearses path outcomes limits always_post) result before now changes = changes
+known-as Found Other rounds others knows told (views path shown begun trust_owner) result before now changes = changes
+known-as Found Other rounds others knows told (shows page) result before now changes = changes
 
 -- what is not beside a DAG file is not changed, whatever is known
-pub known-of-input : (Found Other : Knows) (asked : Asked) → is_beside asked ≡ false → (result : Result Answer RunFault) (before now : List FileChange)
-    → ChangesAs Found asked result before now → ChangesAs Other asked result before now
-known-of-input Found Other (runs path options) isnt result before now changes = cc
-known-of-input Found Other (salvages path ended trust_owner) isnt result before now changes = changes
-known-of-input Found Other (redoes path nodes only trust_owner) isnt result before now changes = changes
-known-of-input Found Other (checks path all json hinted) isnt result before now changes = changes
-known-of-input Found Other (rehearses path outcomes limits always_post) isnt result before now changes = changes
-known-of-input Found Other (views path shown begun trust_owner) isnt result before now changes = changes
-known-of-input Found Other (shows page) isnt result before now changes = changes
-
--- a command that is refused at once changes nothing
-pub nothing-changed : (Q : RunFault → Type 0) (Found : Knows) (asked : Asked) (result : Result Answer RunFault) → IsErrAnd result Q → (before : List FileChange)
-    → ChangesAs Found asked result before before
-nothing-changed Q Found asked (Ok answer) refused before = absurd refused
-nothing-changed Q Found (runs path options) (Err fault) refused before = ran (refused_at_last refl none_refused)
-nothing-changed Q Found (salvages path ended trust_owner) (Err fault) refused before = salvage_refused fault before before (inl refl)
-nothing-changed Q Found (redoes path nodes only trust_owner) (Err fault) refused before =
-    not_locked (not_all_made fault 0 [] false before before (begun-none _ before before refl)) refl
-nothing-changed Q Found (checks path all json hinted) (Err fault) refused before = refl
-nothing-changed Q Found (rehearses path outcomes limits always_post) (Err fault) refused before = refl
-nothing-changed Q Found (views path shown begun trust_owner) (Err fault) refused before = refl
-nothing-changed Q Found (shows page) (Err fault) refused before = refl
-
--- a run that is refused, handed on
-pub run-handed-on : (Q : RunFault → Type 0) (Found : Round → Option (List ℕ) → Type 0) (top : List ℕ) (options : RunOptions) (result other : Result Answer RunFault)
-    → IsErrAnd other Q → (before now : List FileChange) → ChangesOfRun Found top options result before now → ChangesOfRun Found top options other before now
-run-handed-on Q Found top options result other refused before now changes =
-    run-of result other Found Found (λ round rescue found. found) (makes-if-refused Q result other refused) (λ e. is-refused Q other refused) top options before now changes
-
--- a run whose answer is another one
-pub run-answered : (Found : Round → Option (List ℕ) → Type 0) (top : List ℕ) (options : RunOptions) (answer other : Answer) (before now : List FileChange)
-    → ChangesOfRun Found top options (Ok answer) before now → ChangesOfRun Found top options (Ok other) before now
-run-answered Found top options answer other before now changes =
-    run-of (Ok answer) (Ok other) Found Found (λ round rescue found. found) (ok-as-ok RunFault RunFault answer other) (λ e. e) top options before now changes
+pub known-of-input : (Found Other : RunKnowledge) (rounds others : Rounds) (asked : Asked) → is_beside asked ≡ false → (result : Result Answer RunFault) (before now : List FileChange)
+    → ChangesAs Found rounds asked result before now → ChangesAs Other others asked result before now
+known-of-input Found Other rounds others (runs path options) isnt result before now changes = cc
+known-of-input Found Other rounds others (salvages path ended trust_owner) isnt result before now changes = changes
+known-of-input Found Other rounds others (redoes path nodes only begun trust_owner) isnt result before now changes = changes
+known-of-input Found Other rounds others (checks path all json hinted) isnt result before now changes = changes
+known-of-input Found Other rounds others (rehearses path outcomes limits always_post) isnt result before now changes = changes
+known-of-input Found Other rounds others (views path shown begun trust_owner) isnt result before now changes = changes
+known-of-input Found Other rounds others (shows page) isnt result before now changes = changes
 
 -- a run that is refused before anything is changed
-pub run-unchanged : (Q : RunFault → Type 0) (Found : Round → Option (List ℕ) → Type 0) (top : List ℕ) (options : RunOptions) (result : Result Answer RunFault)
-    → IsErrAnd result Q → (before : List FileChange) → ChangesOfRun Found top options result before before
-run-unchanged Q Found top options result refused before = ran (refused_at_last (is-refused Q result refused) none_refused)
+run-unchanged : (Found : RunKnowledge) (rounds : Rounds) (top : List ℕ) (options : RunOptions) (result : Result Answer RunFault) → IsErr result → (before : List FileChange)
+    → ChangesOfRun Found rounds top options result before before
+run-unchanged Found rounds top options result refused before = ran ([], no_looks, left_unlocked refused (sym (append-nil before)))
 
--- nothing is salvaged
-pub salvage-refused : (Q : RunFault → Type 0) (top : List ℕ) (ended : Bool) (result : Result Answer RunFault) → IsErrAnd result Q → (before now : List FileChange)
-    → SalvagesInPart top before now → ChangesOfSalvage top ended result before now
-salvage-refused Q top ended (Ok answer) bad before now part = absurd bad
-salvage-refused Q top ended (Err fault) refused before now part = salvage_refused fault before now part
+-- a `redo` that is refused before it looks at the round
+pub refused-unchanged : (Q : RunFault → Type 0) (path : List ℕ) (nodes : List (List ℕ)) (only : Bool) (result : Result Answer RunFault) → IsErrAnd result Q → (before : List FileChange)
+    → MakesRedo changing any_paths path nodes only result before before
+refused-unchanged Q path nodes only (Ok answer) refused before = absurd refused
+refused-unchanged Q path nodes only (Err fault) refused before = redo_not_begun fault before before refl
 
-pub salvage-left : (top : List ℕ) (ended : Bool) (result : Result Answer RunFault) → IfOk result (λ answer. answer.status ≡ 125) → (before now : List FileChange)
-    → SalvagesInPart top before now → ChangesOfSalvage top ended result before now
-salvage-left top ended (Ok answer) status before now part = salvage_left answer before now status part
-salvage-left top ended (Err fault) status before now part = salvage_refused fault before now part
+-- a command that is refused at once changes nothing
+pub nothing-changed : (Q : RunFault → Type 0) (Found : RunKnowledge) (rounds : Rounds) (asked : Asked) (result : Result Answer RunFault) → IsErrAnd result Q → (before : List FileChange)
+    → ChangesAs Found rounds asked result before before
+nothing-changed Q Found rounds asked (Ok answer) refused before = absurd refused
+nothing-changed Q Found rounds (runs path options) (Err fault) refused before = run-unchanged Found rounds path options (Err fault) refl before
+nothing-changed Q Found rounds (salvages path ended trust_owner) (Err fault) refused before =
+    salvage_refused fault before before (salvage_not_begun refl)
+nothing-changed Q Found rounds (redoes path nodes only begun trust_owner) (Err fault) refused before = redo_not_begun fault before before refl
+nothing-changed Q Found rounds (checks path all json hinted) (Err fault) refused before = refl
+nothing-changed Q Found rounds (rehearses path outcomes limits always_post) (Err fault) refused before = refl
+nothing-changed Q Found rounds (views path shown begun trust_owner) (Err fault) refused before = refl
+nothing-changed Q Found rounds (shows page) (Err fault) refused before = refl
+
+-- a run that is refused, handed on
+handed-on : (given : RunFault) (result : Result Answer RunFault) → IsErrAnd result (λ fault. fault ≡ given) → (P : Result Answer RunFault → Type 0) → P (Err given) → P result
+handed-on given (Ok answer) bad P is = absurd bad
+handed-on given (Err fault) same P is = subst (λ (f : RunFault). P (Err f)) (sym same) is
+
+pub run-handed-on : (given : RunFault) (result : Result Answer RunFault) → IsErrAnd result (λ fault. fault ≡ given) → (Found : RunKnowledge) (rounds : Rounds) (top : List ℕ) (options : RunOptions)
+    (before now : List FileChange) → ChangesOfRun Found rounds top options (Err given) before now → ChangesOfRun Found rounds top options result before now
+run-handed-on given result refused Found rounds top options before now changes =
+    handed-on given result refused (λ (r : Result Answer RunFault). ChangesOfRun Found rounds top options r before now) changes
+
+-- a run whose answer is another one
+pub run-answered : (Found : RunKnowledge) (rounds : Rounds) (top : List ℕ) (options : RunOptions) (answer other : Answer) (before now : List FileChange)
+    → ChangesOfRun Found rounds top options (Ok answer) before now → ChangesOfRun Found rounds top options (Ok other) before now
+run-answered Found rounds top options answer other before now changes =
+    run-of (Ok answer) (Ok other) Found Found (same-known Found) rounds rounds (told-same rounds) (ok-as-ok answer other) (λ e. e) top options before now changes
+
+-- a run that was led to its end, and it isn't known where each node is
+pub run-untold : (Q : RunFault → Type 0) (result : Result Answer RunFault) → IsErrAnd result Q → (Found : RunKnowledge) (rounds : Rounds) (top : List ℕ) (options : RunOptions)
+    → options.json ≡ true → (answer : Answer) (before now : List FileChange) → ChangesOfRun Found rounds top options (Ok answer) before now
+    → ChangesOfRun Found rounds top options result before now
+run-untold Q result refused Found rounds top options json answer before now (only_reported asked same) = only_reported asked same
+run-untold Q result refused Found rounds top options json answer before now (ran changes) = ran_untold answer json (is-refused Q result refused) changes
+run-untold Q result refused Found rounds top options json answer before now (ran_untold other asked bad changes) = ran_untold other asked (is-refused Q result refused) changes
+
+-- what is known of the rescue file of a round whatever is known of its folder
+some-made : (Honest : Type 0) (ended : Bool) (holds : Files) (top : List ℕ) (next : ℕ) (text : List ℕ) → IsRescueMadeIf Honest ended holds top next text → IsRescueMade ended top next text
+some-made Honest ended holds top next text is = is.0
+
+-- nothing is salvaged: for a cause that other commands have, too
+pub salvage-refused : (Honest : Type 0) (holds : Files) (top : List ℕ) (ended : Bool) (fault : SalvageFault) (given : RunFault) → fault ≡ Refused given
+    → (result : Result Answer RunFault) → IsErrAnd result (λ f. f ≡ given) → (before now : List FileChange)
+    → LeavesSalvage (IsRescueMadeIf Honest ended holds top) top fault before now → ChangesOfSalvage top ended result before now
+salvage-refused Honest holds top ended fault given is (Ok answer) bad before now leaves = absurd bad
+salvage-refused Honest holds top ended fault given is (Err other) same before now leaves =
+    salvage_refused other before now
+    (subst (λ (f : RunFault). LeavesSalvage (IsRescueMade ended top) top (Refused f) before now) (sym same)
+    (subst (λ (f : SalvageFault). LeavesSalvage (IsRescueMade ended top) top f before now) is
+    (leaves-as (IsRescueMadeIf Honest ended holds top) (IsRescueMade ended top) (some-made Honest ended holds top) top fault before now leaves)))
+
+-- or for one of its own
+pub salvage-left : (Honest : Type 0) (holds : Files) (top : List ℕ) (ended : Bool) (fault own : SalvageFault) → own ≡ fault → IsTrue (is_some (fault_text own))
+    → (result : Result Answer RunFault) → IfOk result (λ answer. answer.status ≡ 125) → (before now : List FileChange)
+    → LeavesSalvage (IsRescueMadeIf Honest ended holds top) top fault before now → ChangesOfSalvage top ended result before now
+salvage-left Honest holds top ended fault own same is (Ok answer) status before now leaves =
+    salvage_left answer before now status (own-writes-nothing (IsRescueMadeIf Honest ended holds top) top own is before now
+    (subst (λ (f : SalvageFault). LeavesSalvage (IsRescueMadeIf Honest ended holds top) top f before now) (sym same) leaves))
+salvage-left Honest holds top ended fault own same is (Err other) status before now leaves =
+    salvage_refused other before now (nothing-for-any (IsRescueMade ended top) top (Refused other) before now
+    (own-writes-nothing (IsRescueMadeIf Honest ended holds top) top own is before now
+    (subst (λ (f : SalvageFault). LeavesSalvage (IsRescueMadeIf Honest ended holds top) top f before now) (sym same) leaves)))

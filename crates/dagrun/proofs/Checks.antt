@@ -1,5 +1,5 @@
 -- What `check` answers, with hints and without.
-use Rattle.std.proofs.Common.{◌≡◌, ◌⊎◌, ◌++◌, ℕ, Bool, true, false, List, None, Result, Ok, Err, IfOk, inl, inr, refl, string_bytes, sym, subst}
+use Rattle.std.proofs.Common.{◌≡◌, ◌⊎◌, ◌++◌, ℕ, Bool, true, false, List, Result, Ok, Err, IfOk, inl, inr, refl, string_bytes, sym, subst}
 use Rattle.dag_main_check.specs.declared.fault.RunFault.{RunFault}
 use Rattle.dag_main_check.specs.declared.warnings.Answer.{Answer}
 use Rattle.dag_main_check.specs.declared.form.CheckForm.{CheckForm}
@@ -18,16 +18,17 @@ abbrev pub IsPlain : Said → Answer → Type 0
 IsPlain Checked answer = Checked (string_bytes answer.text) (string_bytes answer.warnings) answer.status
 
 -- a check of the files that are held
-pub at_once : (all : Bool) (form : CheckForm) (holds : Files) (path : List ℕ) (r : Result Answer RunFault) → IfOk r (IsPlain (checks_in all form holds path)) → IfOk r (IsPlain (checks_from all form holds path))
-at_once false form holds path r is = is
-at_once true form holds path (Ok answer) is = all_of_held_files is
-at_once true form holds path (Err fault) is = tt
+pub at_once : (all : Bool) (form : CheckForm) (hinted : Bool) (holds : Files) (path : List ℕ) (r : Result Answer RunFault) → IfOk r (IsPlain (checks_in all form holds path))
+    → IfOk r (IsPlain (checks_from all form hinted holds path))
+at_once false form hinted holds path r is = is
+at_once true form hinted holds path (Ok answer) is = all_of_held_files is
+at_once true form hinted holds path (Err fault) is = tt
 
 -- a check of files that were read once
 pub read_once : (all : Bool) (form : CheckForm) (files : FileSet) (holds : Files) (path : List ℕ) → IsReadFrom holds path files → (text warnings : List ℕ) (status : ℕ)
-    → checks_in all form (bytes_of files) path text warnings status → checks_from all form holds path text warnings status
+    → checks_in all form (bytes_of files) path text warnings status → checks_from all form true holds path text warnings status
 read_once false form files holds path read text warnings status is = checked (bytes_of files) holds read.held form path text warnings status is
-read_once true form files holds path read text warnings status is = all_of_files_read_once files read is
+read_once true form files holds path read text warnings status is = all_of_files_read_once files refl read is
 
 -- without hints
 pub plain_check : (Checked : Said) (hinted : Bool) (r : Result Answer RunFault) → IfOk r (IsPlain Checked) → IfOk r (IsAnswer Checked hinted)

@@ -49,5 +49,5 @@ no-hints (runs path options) reply streams = refl
 no-hints (views path shown begun owned) reply streams = refl
 no-hints (rehearses path outcomes limits always_post) reply streams = refl
 no-hints (salvages path ended owned) reply streams = refl
-no-hints (redoes path nodes only owned) reply streams = refl
+no-hints (redoes path nodes only begun owned) reply streams = refl
 no-hints (shows page) reply streams = refl

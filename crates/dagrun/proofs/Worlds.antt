@@ -8,6 +8,7 @@ use Rattle.splices_flat.specs.FileSet.{bytes_of}
 use Rattle.splices_flat.specs.declared.file_set.FileSet.{FileSet}
 use Rattle.dag_main_files.specs.Folder.{IsReadFrom}
 use Rattle.throttles.specs.declared.Limits.{Limits}
+use Rattle.job_starter_local.specs.declared.launching.Launcher.{Launcher}
 use Rattle.run_plan.specs.Plan.{Plan}
 use Rattle.job_starter_drive.specs.declared.Call.{Call}
 use Rattle.dag_main_args.specs.declared.request.RunOptions.{RunOptions}
@@ -40,10 +41,10 @@ refused-to command given why (Err fault) same = subst command.refused (sym same)
 
 -- what is said of some rounds is said of others, too
 pub record AreToldAs (rounds known : Rounds) : Type 0 where
-  pub led : (top : List ℕ) (limits : Limits) (plan : Plan) (round : Round) (text : List ℕ) (status : ℕ)
-      → rounds.led top limits plan round text status → known.led top limits plan round text status
-  pub stopped : (top : List ℕ) (limits : Limits) (plan : Plan) (round : Round) (fault : RunFault)
-      → rounds.stopped top limits plan round fault → known.stopped top limits plan round fault
+  pub led : (top : List ℕ) (limits : Limits) (launcher : Launcher) (plan : Plan) (round : Round) (text : List ℕ) (status : ℕ)
+      → rounds.led top limits launcher plan round text status → known.led top limits launcher plan round text status
+  pub stopped : (top : List ℕ) (limits : Limits) (launcher : Launcher) (plan : Plan) (round : Round) (fault : RunFault)
+      → rounds.stopped top limits launcher plan round fault → known.stopped top limits launcher plan round fault
   pub deaf : rounds.is_deaf → known.is_deaf
 
 -- what is known of these rounds is known of others, too
@@ -61,30 +62,34 @@ module _ (rounds told_rounds : Rounds) (told : AreToldAs rounds told_rounds) whe
     is_round = run.is_round;
     rescue = run.rescue;
     rescue_is = run.rescue_is;
+    launcher = run.launcher;
     answered = record {
       plan = run.answered.plan;
       planned = run.answered.planned;
-      answered = told.led path options.limits run.answered.plan run.round text status run.answered.answered;
+      answered = (
+        run.answered.answered.0,
+        told.led path options.limits run.launcher run.answered.plan run.round text status run.answered.answered.1,
+      );
       warnings_are = run.answered.warnings_are;
     };
   }
 
-  stop-fault : (options : RunOptions) (path : List ℕ) (plan : Plan) (round : Round) (fault : RunFault)
-      → IsStopFault path options round rounds.is_deaf (rounds.stopped path options.limits plan round) fault
-      → IsStopFault path options round told_rounds.is_deaf (told_rounds.stopped path options.limits plan round) fault
-  stop-fault options path plan round _ (no_endings deaf) = no_endings (told.deaf deaf)
-  stop-fault options path plan round _ (orphans_in_the_way fault why) = orphans_in_the_way fault why
-  stop-fault options path plan round _ (no_status_file name fault is why) = no_status_file name fault is why
-  stop-fault options path plan round _ (not_readied fault why) = not_readied fault why
-  stop-fault options path plan round _ (round_stopped fault why) = round_stopped fault (told.stopped path options.limits plan round fault why)
-  stop-fault options path plan round _ leading_had_no_memory = leading_had_no_memory
+  stop-fault : (options : RunOptions) (path : List ℕ) (launcher : Launcher) (plan : Plan) (round : Round) (fault : RunFault)
+      → IsStopFault path options round rounds.is_deaf (rounds.stopped path options.limits launcher plan round) fault
+      → IsStopFault path options round told_rounds.is_deaf (told_rounds.stopped path options.limits launcher plan round) fault
+  stop-fault options path launcher plan round _ (no_endings deaf) = no_endings (told.deaf deaf)
+  stop-fault options path launcher plan round _ (orphans_in_the_way fault why) = orphans_in_the_way fault why
+  stop-fault options path launcher plan round _ (no_status_file name fault is why) = no_status_file name fault is why
+  stop-fault options path launcher plan round _ (not_readied fault why) = not_readied fault why
+  stop-fault options path launcher plan round _ (round_stopped fault why) = round_stopped fault (told.stopped path options.limits launcher plan round fault why)
+  stop-fault options path launcher plan round _ leading_had_no_memory = leading_had_no_memory
 
-  held-fault : (NotFound : RunFault → Type 0) (options : RunOptions) (path : List ℕ) (plan : Plan) (round : Round) (fault : RunFault)
-      → IsHeldFault path options round NotFound rounds.is_deaf (rounds.stopped path options.limits plan round) fault
-      → IsHeldFault path options round NotFound told_rounds.is_deaf (told_rounds.stopped path options.limits plan round) fault
-  held-fault NotFound options path plan round _ (not_found_again fault why) = not_found_again fault why
-  held-fault NotFound options path plan round _ (another_was_at_work fault why) = another_was_at_work fault why
-  held-fault NotFound options path plan round _ (not_led fault why) = not_led fault (stop-fault options path plan round fault why)
+  held-fault : (NotFound : RunFault → Type 0) (options : RunOptions) (path : List ℕ) (launcher : Launcher) (plan : Plan) (round : Round) (fault : RunFault)
+      → IsHeldFault path options round NotFound rounds.is_deaf (rounds.stopped path options.limits launcher plan round) fault
+      → IsHeldFault path options round NotFound told_rounds.is_deaf (told_rounds.stopped path options.limits launcher plan round) fault
+  held-fault NotFound options path launcher plan round _ (not_found_again fault why) = not_found_again fault why
+  held-fault NotFound options path launcher plan round _ (another_was_at_work fault why) = another_was_at_work fault why
+  held-fault NotFound options path launcher plan round _ (not_led fault why) = not_led fault (stop-fault options path launcher plan round fault why)
 
   run-fault : (says : FileSet → Files) (IsRead : FileSet → Type 0) (sight : RoundSight) (path : List ℕ) (options : RunOptions) (fault : RunFault)
       → IsRunFaultWhere says IsRead sight rounds path options fault → IsRunFaultWhere says IsRead sight told_rounds path options fault
@@ -94,7 +99,8 @@ module _ (rounds told_rounds : Rounds) (told : AreToldAs rounds told_rounds) whe
   run-fault says IsRead sight path options _ (no_launcher fault planned why) = no_launcher fault planned why
   run-fault says IsRead sight path options _ (no_room fault planned why) = no_room fault planned why
   run-fault says IsRead sight path options _ (not_alone fault planned why) = not_alone fault planned why
-  run-fault says IsRead sight path options _ (not_held planned fault why) = not_held planned fault (held-fault sight.not_found options path planned.plan planned.round fault why)
+  run-fault says IsRead sight path options _ (not_held planned launcher fault launches why) =
+      not_held planned launcher fault launches (held-fault sight.not_found options path launcher planned.plan planned.round fault why)
   run-fault says IsRead sight path options _ no_memory = no_memory
 
   keeps-nothing : Keeps rounds told_rounds changing_files
@@ -128,7 +134,7 @@ module _ (rounds told_rounds : Rounds) (told : AreToldAs rounds told_rounds) whe
     told-by (views path shown begun owned) r is = is
     told-by (rehearses path outcomes limits always_post) r is = is
     told-by (salvages path ended owned) r is = is
-    told-by (redoes path nodes only owned) r is = is
+    told-by (redoes path nodes only begun owned) r is = is
     told-by (shows page) r is = is
 
   -- a reply by what is beside a DAG file
@@ -150,7 +156,7 @@ unbeside-some rounds known (runs path options) isnt r is = absurd (false≢true 
 unbeside-some rounds known (views path shown begun owned) isnt r is = is
 unbeside-some rounds known (rehearses path outcomes limits always_post) isnt r is = is
 unbeside-some rounds known (salvages path ended owned) isnt r is = is
-unbeside-some rounds known (redoes path nodes only owned) isnt r is = is
+unbeside-some rounds known (redoes path nodes only begun owned) isnt r is = is
 unbeside-some rounds known (shows page) isnt r is = is
 
 pub unbeside-from : (holds : Files) (has there : List ℕ → Bool) (rounds known : Rounds) (asked : Asked) → is_beside asked ≡ false → (r : Result Answer RunFault)
@@ -160,7 +166,7 @@ unbeside-from holds has there rounds known (runs path options) isnt r is = absur
 unbeside-from holds has there rounds known (views path shown begun owned) isnt r is = absurd (false≢true (sym isnt))
 unbeside-from holds has there rounds known (rehearses path outcomes limits always_post) isnt r is = is
 unbeside-from holds has there rounds known (salvages path ended owned) isnt r is = absurd (false≢true (sym isnt))
-unbeside-from holds has there rounds known (redoes path nodes only owned) isnt r is = absurd (false≢true (sym isnt))
+unbeside-from holds has there rounds known (redoes path nodes only begun owned) isnt r is = absurd (false≢true (sym isnt))
 unbeside-from holds has there rounds known (shows page) isnt r is = is
 
 -- a reply by what is read alone
@@ -180,7 +186,7 @@ unasked (runs path options) isnt run = absurd (false≢true (sym isnt))
 unasked (views path shown begun owned) isnt run = absurd (false≢true run)
 unasked (rehearses path outcomes limits always_post) isnt run = absurd (false≢true run)
 unasked (salvages path ended owned) isnt run = absurd (false≢true run)
-unasked (redoes path nodes only owned) isnt run = absurd (false≢true run)
+unasked (redoes path nodes only begun owned) isnt run = absurd (false≢true run)
 unasked (shows page) isnt run = absurd (false≢true run)
 
 -- a folder that is refused isn't said
@@ -197,13 +203,13 @@ folder-reply Honest IsLost world rounds asked beside given why (Err fault) same 
 -- What a site says of its rounds, a host says that knows it.
 module _ {D R : Type 0} (disks : Ghosts D) (rescues : Ghosts R) (own known : Own D R) (Here Honest : Type 0) (holds all : Files)
     (knows : IsKnownTo own known) (to : Honest → Here) (back : Here → Honest) (same : Honest → holds ≡ all) where
-  at-host : (top : List ℕ) (round : Round) (journal : D) (rescue : R) (calls : List Call) (before now : ℕ)
-      → IsAtSite disks rescues own Here holds top round journal rescue calls before now
-      → IsAtSite disks rescues known Honest all top round journal rescue calls before now
-  at-host top round journal rescue calls before now is = record {
+  at-host : (top : List ℕ) (launcher : Launcher) (round : Round) (journal : D) (rescue : R) (calls : List Call) (before now : ℕ)
+      → IsAtSite disks rescues own Here holds top launcher round journal rescue calls before now
+      → IsAtSite disks rescues known Honest all top launcher round journal rescue calls before now
+  at-host top launcher round journal rescue calls before now is = record {
     is_journal = knows.journals top journal is.is_journal;
     is_rescue = knows.rescues top round.next rescue is.is_rescue;
-    answered = knows.children calls before now is.answered;
+    answered = knows.children launcher calls before now is.answered;
     none_left = is.none_left;
     honest = λ honest. is.honest (to honest);
     found = λ honest. subst (λ (f : Files). disks.seen journal ≡ journal_found f top round) (same honest) (is.found (to honest));
@@ -212,7 +218,7 @@ module _ {D R : Type 0} (disks : Ghosts D) (rescues : Ghosts R) (own known : Own
 
   pub told-at : AreToldAs (rounds_at disks rescues own Here holds) (rounds_at disks rescues known Honest all)
   told-at = record {
-    led = λ top limits plan round text status is. record {
+    led = λ top limits launcher plan round text status is. record {
       journal = is.journal;
       rescue = is.rescue;
       left = is.left;
@@ -220,10 +226,10 @@ module _ {D R : Type 0} (disks : Ghosts D) (rescues : Ghosts R) (own known : Own
       calls = is.calls;
       before = is.before;
       now = is.now;
-      at_site = at-host top round is.journal is.rescue is.calls is.before is.now is.at_site;
+      at_site = at-host top launcher round is.journal is.rescue is.calls is.before is.now is.at_site;
       led = is.led;
     };
-    stopped = λ top limits plan round fault is. record {
+    stopped = λ top limits launcher plan round fault is. record {
       journal = is.journal;
       rescue = is.rescue;
       left = is.left;
@@ -232,7 +238,7 @@ module _ {D R : Type 0} (disks : Ghosts D) (rescues : Ghosts R) (own known : Own
       before = is.before;
       now = is.now;
       cause = is.cause;
-      at_site = at-host top round is.journal is.rescue is.calls is.before is.now is.at_site;
+      at_site = at-host top launcher round is.journal is.rescue is.calls is.before is.now is.at_site;
       refused = is.refused;
       returned = is.returned;
     };

@@ -90,11 +90,11 @@ pub data IsSalvageWith (Salvaged : Said) (NotSalvaged : SalvageFault → Type 0)
   salvaged : (text warnings : List ℕ) (status : ℕ) → Salvaged text warnings status → IsSalvageWith Salvaged NotSalvaged text warnings status
   not_salvaged : (fault : SalvageFault) (warnings : List ℕ) → NotSalvaged fault → IsWarnedCause fault warnings → IsSalvageWith Salvaged NotSalvaged [] warnings 125
 
--- The faults of lines that are listed where these files are held: of the files that are; or of those that were read once, for hints too.
-pub data IsCheckOfAllHeld (form : CheckForm) (holds : Files) (path text warnings : List ℕ) (status : ℕ) : Type 0 where
-  all_of_held_files : IsCheckOfAllFrom form holds path text warnings status → IsCheckOfAllHeld form holds path text warnings status
-  all_of_files_read_once : (files : FileSet) → IsReadFrom holds path files → IsCheckOfAllFrom form (bytes_of files) path text warnings status →
-      IsCheckOfAllHeld form holds path text warnings status
+-- The faults of lines that are listed where these files are held: of the files that are; or, where hints are asked for, of those that were read once for both.
+pub data IsCheckOfAllHeld (form : CheckForm) (hinted : Bool) (holds : Files) (path text warnings : List ℕ) (status : ℕ) : Type 0 where
+  all_of_held_files : IsCheckOfAllFrom form holds path text warnings status → IsCheckOfAllHeld form hinted holds path text warnings status
+  all_of_files_read_once : (files : FileSet) → hinted ≡ true → IsReadFrom holds path files → IsCheckOfAllFrom form (bytes_of files) path text warnings status →
+      IsCheckOfAllHeld form hinted holds path text warnings status
 
 -- a check answers in a line, or as JSON
 abbrev pub check_form : (json : Bool) → CheckForm
@@ -110,9 +110,9 @@ abbrev pub checks_in : (all : Bool) → CheckForm → Files → (path : List ℕ
 checks_in false form holds path = IsCheckOf form holds path
 checks_in true form holds path = IsCheckOfAllFrom form holds path
 
-abbrev pub checks_from : (all : Bool) → CheckForm → Files → (path : List ℕ) → Said
-checks_from false form holds path = IsCheckOf form holds path
-checks_from true form holds path = IsCheckOfAllHeld form holds path
+abbrev pub checks_from : (all : Bool) → CheckForm → (hinted : Bool) → Files → (path : List ℕ) → Said
+checks_from false form hinted holds path = IsCheckOf form holds path
+checks_from true form hinted holds path = IsCheckOfAllHeld form hinted holds path
 
 -- What `check` answers; where hints are asked for, with these after its warnings.
 pub data IsCheckWith (Checked : Said) (hinted : Bool) (text : List ℕ) : (warnings : List ℕ) → (status : ℕ) → Type 0 where
@@ -143,7 +143,7 @@ abbrev pub is_owner_trusted : Asked → Bool
 is_owner_trusted (runs path options) = options.trust_owner
 is_owner_trusted (views path shown begun trust_owner) = trust_owner
 is_owner_trusted (salvages path ended trust_owner) = trust_owner
-is_owner_trusted (redoes path nodes only trust_owner) = trust_owner
+is_owner_trusted (redoes path nodes only begun trust_owner) = trust_owner
 is_owner_trusted _ = false
 
 -- the files that a request is answered by
@@ -279,7 +279,7 @@ pub record Knowledge : Type 1 where
   pub paths : Paths
   pub shown : ByFiles → (path : List ℕ) → (Holding → Said) → Said
   pub not_shown : ByFiles → (path : List ℕ) → (Holding → RunFault → Type 0) → RunFault → Type 0
-  pub checked : (all : Bool) → CheckForm → (path : List ℕ) → Said
+  pub checked : (all : Bool) → CheckForm → (hinted : Bool) → (path : List ℕ) → Said
   pub not_checked : (hinted : Bool) → (path : List ℕ) → RunFault → Type 0
   pub led : Rounds → (path : List ℕ) → RunOptions → Said
   pub not_led : Rounds → (path : List ℕ) → RunOptions → RunFault → Type 0
@@ -295,7 +295,7 @@ changing_files = record {
   paths = any_paths;
   shown = λ by path Answers. Answers changing;
   not_shown = λ by path Refused. IsRefusedBySome by path (Refused changing);
-  checked = checks_some;
+  checked = λ all form hinted. checks_some all form;
   not_checked = λ hinted. IsCheckRefusal;
   led = IsRunOf;
   not_led = IsRunFault;
@@ -312,13 +312,13 @@ held_in holds has = record {
   paths = these_paths has;
   shown = λ by path Answers text warnings status. IsByFiles by holds path (λ files. Answers (fixed files) text warnings status);
   not_shown = λ by path Refused. IsRefusedByFiles by holds path (λ files. Refused (fixed files));
-  checked = λ all form path. checks_from all form holds path;
+  checked = λ all form hinted path. checks_from all form hinted holds path;
   not_checked = λ hinted path. IsCheckRefusalHeld hinted holds path;
   led = IsRunFrom holds has;
   not_led = IsRunFaultFrom holds has;
   rehearsed = λ always_post path limits table. IsRehearsalOf always_post holds path table limits;
   not_rehearsed = λ always_post path limits table. IsRehearsalRefusalFrom always_post holds path table limits;
-  salvaged = λ ended path. IsSalvageFrom ended holds path;
+  salvaged = λ ended path. IsSalvageFrom ended holds has path;
   sight = held_files holds has;
 }
 
@@ -336,17 +336,26 @@ printed_run path options run = record {
   refused = IsPrintFault options.json run.refused (IsNotAnswered changing (Status Json) path);
 }
 
--- What is shown of a round, by the files by which it is shown.
-abbrev pub view_contract : Knowledge → (path : List ℕ) → (begun : Bool) → Shown → CommandContract
-view_contract known path begun view = record {
-  answers = known.shown (files_for_view view begun) path (λ may_hold. IsView may_hold path view);
-  refused = known.not_shown (files_for_view view begun) path (λ may_hold. IsNoView may_hold path view);
+-- What is answered of a round, by the files by which it is shown.
+abbrev pub seen_contract : Knowledge → ByFiles → (path : List ℕ) → (Answers : Holding → Said) → (Refuses : Holding → RunFault → Type 0) → CommandContract
+seen_contract known by path Answers Refuses = record {
+  answers = known.shown by path Answers;
+  refused = known.not_shown by path Refuses;
 }
+
+abbrev pub view_contract : Knowledge → (path : List ℕ) → (begun : Bool) → Shown → CommandContract
+view_contract known path begun view =
+    seen_contract known (files_for_view view begun) path (λ may_hold. IsView may_hold path view) (λ may_hold. IsNoView may_hold path view)
+
+-- `redo` looks at a round by the files as `status` does.
+abbrev pub redo_contract : Knowledge → (path : List ℕ) → (nodes : List (List ℕ)) → (only begun : Bool) → CommandContract
+redo_contract known path nodes only begun =
+    seen_contract known (files_asked begun) path (λ may_hold. IsRedo may_hold known.paths path nodes only) (λ may_hold. IsNoRedo may_hold path)
 
 -- The command that a request is for, where this is known of the files and this is said of the rounds of a run.
 abbrev pub command_contract : Knowledge → Rounds → Asked → CommandContract
 command_contract known rounds (checks path all json hinted) = record {
-  answers = IsCheckWith (known.checked all (check_form json) path) hinted;
+  answers = IsCheckWith (known.checked all (check_form json) hinted path) hinted;
   refused = known.not_checked hinted path;
 }
 command_contract known rounds (runs path options) = printed_run path options (run_contract known rounds path options)
@@ -359,10 +368,7 @@ command_contract known rounds (salvages path ended trust_owner) = record {
   answers = IsSalvageWith (known.salvaged ended path) (IsSalvageFault ended (known.sight path) path);
   refused = λ fault. IsSalvageFault ended (known.sight path) path (Refused fault);
 }
-command_contract known rounds (redoes path nodes only trust_owner) = record {
-  answers = IsRedo known.may_hold known.paths path nodes only;
-  refused = IsNoRedo known.may_hold path;
-}
+command_contract known rounds (redoes path nodes only begun trust_owner) = redo_contract known path nodes only begun
 command_contract known rounds (shows page) = record { answers = IsPage page; refused = λ fault. ⊥ }
 
 -- what is said of the answer of a command

@@ -14,15 +14,14 @@ ghost use Rattle.salvage.specs.Sight.{any_files, held_files};
 ghost use Rattle.salvage.specs.declared.fault.SalvageFault.TheVariants.{Refused};
 ghost use Rattle.dag_main_files.specs.Folder.{any_paths, these_paths};
 ghost use Rattle.dag_main_files.specs.Opened.{changing, fixed};
-ghost use Rattle.redo.specs.Answered.{IsRedo, IsNoRedo};
 ghost use Rattle.dag_main_run.specs.Sites.{rounds_at};
 ghost use Rattle.dag_main_run.specs.RunChanges.{found_where};
 ghost use Rattle.redo.specs.Changes.{MakesRedo};
 ghost use Rattle.dagrun.specs.Changes.{ChangesOfRun, ChangesOfSalvage, ChangesAs};
-ghost use Rattle.dagrun.specs.Answered.{is_run, changing_files, held_in, run_contract, command_contract, ComesTo, IsPage, IsRehearsalWith, IsRehearsalRefusalWith, IsSalvageWith, AreHints};
+ghost use Rattle.dagrun.specs.Answered.{is_run, changing_files, held_in, run_contract, redo_contract, command_contract, ComesTo, IsPage, IsRehearsalWith, IsRehearsalRefusalWith, IsSalvageWith, AreHints};
 
 use crate::checking::{check, check_form};
-use crate::of_round::show;
+use crate::of_round::{files_asked, show};
 use dag_main_args::{Request, RunOptions};
 use dag_main_check::{Answer, Console, RunFault};
 use dag_main_files::{Changes, Folder, Place, read_input, refused};
@@ -31,6 +30,7 @@ use dag_main_run::{Screen, Site, run_dag};
 use file_hints::Wanted;
 use folder_answers::rehearse_here;
 use redo::redo_here;
+use round_inputs::seen_by;
 use salvage::{SalvageFault, salvage_here};
 use std::alloc::Global;
 use std::fs::File;
@@ -70,7 +70,9 @@ pub(crate) fn answer_in<
     ensures hinted { C.honest console.new → AreHints (asked_by request.entry) result (C.shown console.old) (C.shown console.new) }
     ensures back { C.honest console.new → C.honest console.old }
     // What the command changes beside the DAG file: only `run`, `salvage` and `redo` change anything.
-    ensures changes { ChangesAs (found_where (F.honest folder.now) (F.holds folder.now) (F.has folder.now)) (asked_by request.entry) result changes.old changes.new }
+    ensures changes { ChangesAs (found_where (F.honest folder.now) (F.holds folder.now) (F.has folder.now))
+        (rounds_at F.Journal.Disk F.Rescue.Disk (F.own folder.now) (F.honest folder.now) (F.holds folder.now))
+        (asked_by request.entry) result changes.old changes.new }
 {
     match request {
         Request::Run { dag, options } => run_in(rt, folder, dag, &options, changes),
@@ -84,8 +86,16 @@ pub(crate) fn answer_in<
             dag,
             nodes,
             only,
+            as_begun,
             trust_owner,
-        } => redo_in(rt, folder, dag, &nodes, only, trust_owner, changes),
+        } => {
+            let wanted = Redone {
+                nodes: &nodes,
+                only,
+                as_begun,
+            };
+            redo_in(rt, folder, dag, &wanted, trust_owner, changes)
+        }
         Request::Page { text } => Ok(page(rt.alloc(), text)),
         Request::Check {
             dag,
@@ -135,8 +145,9 @@ fn run_in<R: Files<File = File> + Processes + Clock + Screen + AllocGlobal + Cop
     ensures held { F.honest folder.now → ¬ (F.streams folder.now) → ComesTo (command_contract (held_in (F.holds folder.now) (F.has folder.now))
         (rounds_at F.Journal.Disk F.Rescue.Disk (F.own folder.now) (F.honest folder.now) (F.holds folder.now))
         (runs dag.now options.now)) result }
-    ensures changes { ChangesOfRun (found_where (F.honest folder.now) (F.holds folder.now) (F.has folder.now) dag.now options.now) dag.now options.now
-        result changes.old changes.new }
+    ensures changes { ChangesOfRun (found_where (F.honest folder.now) (F.holds folder.now) (F.has folder.now))
+        (rounds_at F.Journal.Disk F.Rescue.Disk (F.own folder.now) (F.honest folder.now) (F.holds folder.now))
+        dag.now options.now result changes.old changes.new }
 {
     let answer = run_or_report(rt, folder, dag, options, changes)?;
     if !options.json {
@@ -168,8 +179,9 @@ fn run_or_report<
     ensures held { F.honest folder.now → ¬ (F.streams folder.now) → ComesTo (run_contract (held_in (F.holds folder.now) (F.has folder.now))
         (rounds_at F.Journal.Disk F.Rescue.Disk (F.own folder.now) (F.honest folder.now) (F.holds folder.now))
         dag.now options.now) result }
-    ensures changes { ChangesOfRun (found_where (F.honest folder.now) (F.holds folder.now) (F.has folder.now) dag.now options.now) dag.now options.now
-        result changes.old changes.new }
+    ensures changes { ChangesOfRun (found_where (F.honest folder.now) (F.holds folder.now) (F.has folder.now))
+        (rounds_at F.Journal.Disk F.Rescue.Disk (F.own folder.now) (F.honest folder.now) (F.holds folder.now))
+        dag.now options.now result changes.old changes.new }
 {
     let place = Place {
         folder: folder.seat(),
@@ -215,7 +227,7 @@ fn salvage_in<R: Files<File = File> + Clock + AllocGlobal + Copy + Drop, F: Site
 ) -> Result<Answer, RunFault>
     ensures answered { IfOk result (λ answer. IsSalvageWith (IsSalvageOf ended dag.now) (IsSalvageFault ended any_files dag.now)
         (string_bytes answer.text) (string_bytes answer.warnings) answer.status) }
-    ensures held { F.honest folder.now → IfOk result (λ answer. IsSalvageWith (IsSalvageFrom ended (F.holds folder.now) dag.now)
+    ensures held { F.honest folder.now → IfOk result (λ answer. IsSalvageWith (IsSalvageFrom ended (F.holds folder.now) (F.has folder.now) dag.now)
         (IsSalvageFault ended (held_files (F.holds folder.now) (F.has folder.now) dag.now) dag.now)
         (string_bytes answer.text) (string_bytes answer.warnings) answer.status) }
     ensures refused { IfErr result (λ fault. IsSalvageFault ended any_files dag.now (Refused fault)) }
@@ -236,29 +248,45 @@ fn salvage_in<R: Files<File = File> + Clock + AllocGlobal + Copy + Drop, F: Site
     }
 }
 
-/// Makes a rescue file by which nodes of a round run again.
+/// What `redo` is asked for.
+#[derive(Clone, Copy)]
+struct Redone<'a> {
+    nodes: &'a [&'a str],
+    only: bool,
+    as_begun: bool,
+}
+
+/// Makes a rescue file by which nodes of a round run again, by the files as they are or by those with which the round began.
+///
+/// # Errors
+/// Those of `seen_by`; then those of `redo_here`.
 fn redo_in<R: Files<File = File> + Clock + AllocGlobal + Copy + Drop, F: Site>(
     rt: &R,
     folder: &F,
     dag: &str,
-    nodes: &[&str],
-    only: bool,
+    wanted: &Redone<'_>,
     trust_owner: bool,
     changes: &mut Changes,
 ) -> Result<Answer, RunFault>
-    ensures redone { IfOk result (λ answer. IsRedo changing any_paths dag.now (map (λ n. n.now) nodes.now) only
-        (string_bytes answer.text) (string_bytes answer.warnings) answer.status) }
-    ensures held { F.honest folder.now → IfOk result (λ answer. IsRedo (fixed (F.holds folder.now)) (these_paths (F.has folder.now)) dag.now (map (λ n. n.now) nodes.now) only
-        (string_bytes answer.text) (string_bytes answer.warnings) answer.status) }
-    ensures refused { IfErr result (IsNoRedo changing dag.now) }
-    ensures refused_held { F.honest folder.now → IfErr result (IsNoRedo (fixed (F.holds folder.now)) dag.now) }
-    ensures changes { MakesRedo dag.now result changes.old changes.new }
+    ensures some { ComesTo (redo_contract changing_files dag.now (map (λ n. n.now) wanted.now.nodes.now) wanted.now.only wanted.now.as_begun) result }
+    ensures held { F.honest folder.now → ComesTo (redo_contract (held_in (F.holds folder.now) (F.has folder.now)) dag.now
+        (map (λ n. n.now) wanted.now.nodes.now) wanted.now.only wanted.now.as_begun) result }
+    ensures changes { MakesRedo changing any_paths dag.now (map (λ n. n.now) wanted.now.nodes.now) wanted.now.only result changes.old changes.new }
 {
+    let seen = seen_by(rt.alloc(), folder, dag, files_asked(wanted.as_begun))?;
     let place = Place {
         folder: folder.seat(),
         top: dag,
     };
-    redo_here(*rt, folder, &place, nodes, only, trust_owner, changes)
+    redo_here(
+        *rt,
+        &seen,
+        &place,
+        wanted.nodes,
+        wanted.only,
+        trust_owner,
+        changes,
+    )
 }
 
 /// What `rehearse` answers, by the table of outcomes where one is named.

@@ -62,7 +62,7 @@ pub(crate) fn check<R: Files<File = File> + Screen + AllocGlobal, C: Console, F:
 ) -> Result<Answer, RunFault>
     ensures answered { IfOk result (λ answer. IsCheckWith (checks_some all form dag.now) (wanted.hints || wanted.condor)
         (string_bytes answer.text) (string_bytes answer.warnings) answer.status) }
-    ensures held { F.honest folder.now → IfOk result (λ answer. IsCheckWith (checks_from all form (F.holds folder.now) dag.now) (wanted.hints || wanted.condor)
+    ensures held { F.honest folder.now → IfOk result (λ answer. IsCheckWith (checks_from all form (wanted.hints || wanted.condor) (F.holds folder.now) dag.now) (wanted.hints || wanted.condor)
         (string_bytes answer.text) (string_bytes answer.warnings) answer.status) }
     ensures refused { IfErr result (IsCheckRefusal dag.now) }
     ensures refused_held { F.honest folder.now → IfErr result (IsCheckRefusalHeld (wanted.hints || wanted.condor) (F.holds folder.now) dag.now) }
@@ -89,7 +89,7 @@ fn check_with_hints<R: Files<File = File> + Screen + AllocGlobal, C: Console, F:
 ) -> Result<Answer, RunFault>
     ensures checked { IfOk result (λ answer. IsCheckWith (checks_some all form dag.now) true
         (string_bytes answer.text) (string_bytes answer.warnings) answer.status) }
-    ensures held { F.honest folder.now → IfOk result (λ answer. IsCheckWith (checks_from all form (F.holds folder.now) dag.now) true
+    ensures held { F.honest folder.now → IfOk result (λ answer. IsCheckWith (checks_from all form true (F.holds folder.now) dag.now) true
         (string_bytes answer.text) (string_bytes answer.warnings) answer.status) }
     ensures refused { IfErr result (IsCheckRefusal dag.now) }
     ensures refused_held { F.honest folder.now → IfErr result (IsCheckRefusalHeld true (F.holds folder.now) dag.now) }

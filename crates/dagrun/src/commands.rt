@@ -11,7 +11,6 @@ ghost use Rattle.dagrun.specs.Answered.{fold_at, shown_at, asked_at, is_beside, 
 use crate::answers::{REFUSED, answer_in};
 use crate::host::Host;
 use crate::of_round::graph_asked;
-use crate::terminal::{Postscript, display_hint, display_hint_of_answer, display_postscript};
 use dag_main_args::{FoldRule, ProgressRule, Request, ShownRound, View, WordsFault, read_words};
 use dag_main_check::{Answer, Console, RunFault, display_reply};
 use dag_main_files::Changes;
@@ -20,6 +19,7 @@ use std::fs::File;
 use std::process::Processes;
 use std::rt::{Env, Files};
 use std::time::{Clock, Duration};
+use terminal_notes::{Postscript, display_hint, display_hint_of_answer, display_postscript};
 
 /// Runs the command of these words, of which the first is the program's name, and answers the
 /// exit status; `to_terminal` says whether standard output is a terminal, on which `graph` folds by itself.
@@ -44,7 +44,8 @@ pub fn run<
         (map (λ w. w.now) words.now) (C.shown console.old) (C.shown console.new) result }
     ensures back { C.honest console.new → C.honest console.old }
     // What the command changes beside its DAG file, and in which order; only `run`, `salvage` and `redo` change anything.
-    ensures changes { ChangesAsAsked (found_where (H.honest host.now) (H.world host.now).holds (H.world host.now).has) to_terminal
+    ensures changes { ChangesAsAsked (found_where (H.honest host.now) (H.world host.now).holds (H.world host.now).has)
+        (rounds_at H.Here.Journal.Disk H.Here.Rescue.Disk (H.own host.now) (H.honest host.now) (H.world host.now).holds) to_terminal
         (IsReply (H.honest host.now) (H.is_lost host.now) (H.world host.now)
         (rounds_at H.Here.Journal.Disk H.Here.Rescue.Disk (H.own host.now) (H.honest host.now) (H.world host.now).holds))
         (map (λ w. w.now) words.now) changes.old changes.new }
@@ -130,8 +131,9 @@ fn answer<
         (asked_by request.entry) result }
     ensures hinted { C.honest console.new → AreHints (asked_by request.entry) result (C.shown console.old) (C.shown console.new) }
     ensures back { C.honest console.new → C.honest console.old }
-    ensures changes { ChangesAs (found_where (H.honest host.now) (H.world host.now).holds (H.world host.now).has) (asked_by request.entry) result
-        changes.old changes.new }
+    ensures changes { ChangesAs (found_where (H.honest host.now) (H.world host.now).holds (H.world host.now).has)
+        (rounds_at H.Here.Journal.Disk H.Here.Rescue.Disk (H.own host.now) (H.honest host.now) (H.world host.now).holds)
+        (asked_by request.entry) result changes.old changes.new }
 {
     if !is_beside(&request) {
         return answer_in(rt, console, &host.inputs(), request, changes);

@@ -4,11 +4,9 @@
 mod answers;
 mod checking;
 mod commands;
-mod declared;
 mod host;
 mod of_round;
 mod shorthand;
-mod terminal;
 
 use answers::REFUSED;
 use commands::run;

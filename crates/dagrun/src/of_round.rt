@@ -59,8 +59,8 @@ fn times_form(svg: bool, json: bool, summary: bool, rounds: bool) -> TimesForm
     }
 }
 
-/// By which files `status` and `audit` show a round: by the files as they are, unless it is to be shown as it began.
-fn files_asked(as_begun: bool) -> ByFiles
+/// By which files `status`, `audit` and `redo` look at a round: by the files as they are, unless it is to be shown as it began.
+pub(crate) fn files_asked(as_begun: bool) -> ByFiles
     ensures { result ≡ files_asked as_begun }
 {
     if as_begun {

@@ -3,7 +3,7 @@
 
 ghost use Rattle.std.specs.Prelude.{◌≡◌, ◌≢◌, ◌++◌, codes, length, map, IfOk, IfErr, string_bytes};
 ghost use Rattle.dag_main_check.specs.declared.fault.RunFault.TheVariants.{Memory};
-ghost use Rattle.dag_main_files.specs.Beside.{IsFileFault, IsRefusalOf};
+ghost use Rattle.dag_main_files.specs.Beside.{IsRefusalOf};
 ghost use Rattle.dag_main_files.specs.Opened.{changing, fixed};
 ghost use Rattle.failure_answers.specs.Answered.{IsAnswerOf, IsWhyOfAllIn, IsWhyOfNamedIn, IsWhy, IsNoWhy};
 
@@ -70,7 +70,6 @@ pub fn has_own_log<R: Files + AllocGlobal>(
     place: &Place<'_>,
     trust_owner: bool,
 ) -> Result<(), RunFault>
-    ensures refused { IfErr result IsFileFault }
     ensures named { IfErr result (IsRefusalOf (place.now.top.now ++ codes ".log")) }
 {
     let path = Text::joined(rt.alloc(), place.top, ".log")?;

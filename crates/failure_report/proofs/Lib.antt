@@ -7,3 +7,4 @@ pub mod Blocks
 pub mod Naming
 pub mod Gathering
 pub mod Listed
+pub mod Joined

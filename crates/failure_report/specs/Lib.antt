@@ -2,6 +2,7 @@ pub mod Reaching
 pub mod Waiting
 pub mod Failures
 pub mod Heads
+pub mod Hanging
 pub mod Reported
 pub mod Named
 pub mod Grouped

@@ -1,5 +1,5 @@
 -- What is reported of nodes.
-use Rattle.std.specs.Prelude.{◌≡◌, ℕ, ◌<◌, List, [], ◌∷◌, ◌++◌, map, Option, Some, None}
+use Rattle.std.specs.Prelude.{◌≡◌, ℕ, ◌<◌, List, [], ◌∷◌, ◌++◌, map, Option, Some, None, codes}
 use Rattle.node_machine.specs.declared.Ended.{Ended}
 use Rattle.node_machine.specs.declared.Record.{Record}
 use Rattle.run_plan.specs.Plan.{Plan, node_at, count_of}
@@ -8,19 +8,25 @@ use Rattle.failure_report.specs.declared.why.Reported.{Reported}
 use Rattle.failure_report.specs.declared.why.Reported.TheVariants.{Failed, Standing}
 use Rattle.failure_report.specs.Failures.{AreFailures}
 use Rattle.failure_report.specs.Heads.{head_line}
+use Rattle.failure_report.specs.Hanging.{hung}
 
--- What is reported of a node in error: its line, with some reason or none, and then some more. (One that the plan doesn't have, or no phase
--- of which ended, is not in error, and nothing is reported of it.)
+-- What is reported of a node in error: its line, with some reason or none, and then some more, in which each line is indented. (One that the plan
+-- doesn't have, or no phase of which ended, is not in error, and nothing is reported of it.)
 pub data IsFailureBlock (plan : Plan) (failure : Failure) : List ℕ → Type 0 where
   has_line : (end : Ended) (reason : Option (List ℕ)) (more : List ℕ) → failure.end ≡ Some end →
-      IsFailureBlock plan failure (head_line (node_at plan failure.node).name end reason (node_at plan failure.node).course.retries failure.waiting ++ more)
+      IsFailureBlock plan failure (hung (head_line (node_at plan failure.node).name end reason (node_at plan failure.node).course.retries failure.waiting ++ more))
   has_no_end : failure.end ≡ None → IsFailureBlock plan failure []
   is_no_node : count_of plan < failure.node → IsFailureBlock plan failure []
 
--- of another one anything is
+-- What is reported of a node that is not in error: its name, and some words, in which each line after the first is indented. (Nothing is reported
+-- of one that the plan doesn't have.)
+pub data IsStandingBlock (plan : Plan) (node : ℕ) : List ℕ → Type 0 where
+  has_words : (words : List ℕ) → IsStandingBlock plan node (hung ((node_at plan node).name ++ (codes " " ++ words)))
+  is_no_other : count_of plan < node → IsStandingBlock plan node []
+
 abbrev pub IsBlock : Plan → Reported → List ℕ → Type 0
 IsBlock plan (Failed failure) block = IsFailureBlock plan failure block
-IsBlock plan (Standing node) block = Unit {0}
+IsBlock plan (Standing node) block = IsStandingBlock plan node block
 
 -- what is reported of a node comes after a text, with something between them
 pub record HasBlock (plan : Plan) (one : Reported) (before now : List ℕ) : Type 0 where

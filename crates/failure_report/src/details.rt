@@ -134,26 +134,26 @@ fn push_command(
     launcher: Option<&str>,
 ) -> Result<(), AllocError> {
     let words = command.words.as_str();
-    writeln!(text, "    command  {words}")?;
+    writeln!(text, "command  {words}")?;
     if let Some(launcher) = launcher {
-        text.push_str("    launcher ")?;
+        text.push_str("launcher ")?;
         push_all_shown(text, launcher)?;
         text.push('\n')?;
     }
-    push_path(text, "    folder   ", command.folder.as_str())?;
+    push_path(text, "folder   ", command.folder.as_str())?;
     if let Some(input) = &command.input {
-        push_path(text, "    input    ", input.as_str())?;
+        push_path(text, "input    ", input.as_str())?;
     }
-    push_stream(text, "    output   ", &command.output)?;
-    push_stream(text, "    error    ", &command.error)
+    push_stream(text, "output   ", &command.output)?;
+    push_stream(text, "error    ", &command.error)
 }
 
 /// Adds the lines that are quoted.
 fn push_lines(text: &mut String, lines: &[String]) -> Result<(), AllocError> {
-    text.push_str("    last lines of its error output:\n")?;
+    text.push_str("last lines of its error output:\n")?;
     for line in lines {
         let line = line.as_str();
-        writeln!(text, "        {line}")?;
+        writeln!(text, "    {line}")?;
     }
     Ok(())
 }
@@ -162,11 +162,11 @@ fn push_lines(text: &mut String, lines: &[String]) -> Result<(), AllocError> {
 fn push_quote(text: &mut String, quote: &Quote) -> Result<(), AllocError> {
     match quote {
         Quote::Lines(lines) => push_lines(text, lines),
-        Quote::Empty => text.push_str("    its error output is empty\n"),
-        Quote::Missing => text.push_str("    the file of its error output is missing\n"),
-        Quote::NoFile => text.push_str("    its error output is no file that can be quoted\n"),
+        Quote::Empty => text.push_str("its error output is empty\n"),
+        Quote::Missing => text.push_str("the file of its error output is missing\n"),
+        Quote::NoFile => text.push_str("its error output is no file that can be quoted\n"),
         Quote::Refused(reason) => {
-            text.push_str("    its error output can not be read: ")?;
+            text.push_str("its error output can not be read: ")?;
             push_all_shown(text, reason.as_str())?;
             text.push('\n')
         }
@@ -183,13 +183,13 @@ pub(crate) fn push_details(text: &mut String, details: &Details) -> Result<(), A
         push_command(text, command, launcher)?;
     }
     if let Some(seconds) = &details.seconds {
-        text.push_str("    took     ")?;
+        text.push_str("took     ")?;
         push_all_shown(text, seconds.as_str())?;
         text.push_str(" s\n")?;
     }
     if let Some(repair) = &details.repair {
         let repair = repair.as_str();
-        writeln!(text, "    repair   {repair}")?;
+        writeln!(text, "repair   {repair}")?;
     }
     match &details.quote {
         Some(quote) => push_quote(text, quote),

@@ -30,7 +30,7 @@ fn push_errors(alloc: Global, text: &mut String, errors: &str) -> Result<(), All
     let errors = unquoted(alloc, errors)?;
     let lines = last_lines(alloc, errors.as_str().as_bytes(), false)?;
     for line in lines.iter().skip(lines.len().saturating_sub(LINES)) {
-        writeln!(text, "        {line}")?;
+        writeln!(text, "    {line}")?;
     }
     Ok(())
 }
@@ -39,7 +39,7 @@ fn push_errors(alloc: Global, text: &mut String, errors: &str) -> Result<(), All
 fn push_end(alloc: Global, text: &mut String, end: &EarlierEnd<'_>) -> Result<(), AllocError> {
     let words = phase_words(end.phase);
     let attempt = end.attempt.saturating_add(1);
-    write!(text, "    earlier  attempt {attempt}: {words} ")?;
+    write!(text, "earlier  attempt {attempt}: {words} ")?;
     push_ending(text, end.outcome, None)?;
     if let Some(seconds) = end.seconds {
         text.push_str(" after ")?;
@@ -66,7 +66,7 @@ pub(crate) fn push_earlier(
     let count = ends.iter().filter(|end| end.node == node).count();
     let skipped = count.saturating_sub(MOST);
     if skipped > 0 {
-        writeln!(text, "    earlier  {skipped} before these")?;
+        writeln!(text, "earlier  {skipped} before these")?;
     }
     for end in ends.iter().filter(|end| end.node == node).skip(skipped) {
         push_end(alloc, text, end)?;

@@ -12,6 +12,7 @@ mod earlier;
 mod failed;
 mod found;
 mod groups;
+mod hanging;
 mod heads;
 mod launches;
 mod looking;

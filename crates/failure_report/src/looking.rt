@@ -10,7 +10,7 @@ use node_machine::Outcome;
 use std::alloc::{AllocError, Global};
 use std::fs::{self, File};
 use std::io::ErrorKind;
-use std::os::unix::fs::FileExt;
+use std::os::unix::fs::{FileExt, MetadataExt};
 use std::rt::Files;
 use std::str;
 
@@ -26,6 +26,9 @@ const PASSING: [i32; 3] = [11, 23, 24];
 
 /// The code that says that a file may not be executed or written (EACCES).
 const NOT_ALLOWED: i32 = 13;
+
+/// The bits of a mode by which somebody may execute a file.
+const SOMEBODY_RUNS: u32 = 0o111;
 
 /// The code that says that a disk is full (ENOSPC).
 const DISK_FULL: i32 = 28;
@@ -245,6 +248,15 @@ fn missing_repair<R: Files + AllocGlobal>(
     about(alloc, words, path)
 }
 
+/// Why a program of this mode may not be executed, and the beginning of a command.
+fn not_allowed_words(mode: u32) -> &'static str {
+    if mode & SOMEBODY_RUNS == 0 {
+        "it may not be executed: chmod +x "
+    } else {
+        "only others may execute it, or its disk is mounted with noexec (findmnt -T), or the program of its first line may not be executed: ls -l "
+    }
+}
+
 /// What is wrong with a program, where the system refused it with this code, if that is known.
 fn program_repair<R: Files<File = File> + AllocGlobal>(
     rt: &R,
@@ -252,7 +264,7 @@ fn program_repair<R: Files<File = File> + AllocGlobal>(
     code: Option<i32>,
 ) -> Result<Option<String>, AllocError> {
     let alloc = rt.alloc();
-    match fs::metadata(rt, path) {
+    let mode = match fs::metadata(rt, path) {
         Ok(found) if found.is_dir() => return about(alloc, "this is a folder, no program: ", path),
         // It is not opened: a pipe would wait for somebody who writes.
         Ok(found) if !found.is_file() => {
@@ -262,12 +274,12 @@ fn program_repair<R: Files<File = File> + AllocGlobal>(
                 path,
             );
         }
-        Ok(_) => {}
+        Ok(found) => found.mode(),
         Err(error) if error.kind() == ErrorKind::NotFound => return missing_repair(rt, path),
         Err(_) => return about(alloc, "a folder of its path may not be looked into: ", path),
-    }
+    };
     if code == Some(NOT_ALLOWED) {
-        return about(alloc, "it may not be executed: chmod +x ", path);
+        return about(alloc, not_allowed_words(mode), path);
     }
     match first_bytes(rt, path) {
         Some(bytes) => beginning_repair(rt, path, &bytes),

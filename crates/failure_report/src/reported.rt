@@ -7,6 +7,7 @@ ghost use Rattle.failure_report.specs.Reported.{IsFailureBlock};
 use crate::details::{Details, Quote, SeenCommand, push_details, seen_command};
 use crate::earlier::push_earlier;
 use crate::failed::Failure;
+use crate::hanging::hung;
 use crate::heads::{phase_words, push_ending, push_head};
 use crate::looking::{quote_of, repair_of};
 use crate::notes::{LogNotes, PhaseNotes, Refused};
@@ -278,7 +279,7 @@ fn push_before<R: Files<File = File> + AllocGlobal>(
 ) -> Result<(), AllocError> {
     let reason = reason_of(rt.alloc(), run, story)?;
     let words = phase_words(story.key.phase);
-    write!(text, "    before that, {words} ")?;
+    write!(text, "before that, {words} ")?;
     if let Some(outcome) = story.outcome {
         push_ending(text, outcome, shown(&reason))?;
     }
@@ -308,13 +309,13 @@ fn push_no_more(
     if course.abort_on == Some(value) {
         return writeln!(
             text,
-            "    aborted  the round: {value} is the value of its ABORT-DAG-ON line"
+            "aborted  the round: {value} is the value of its ABORT-DAG-ON line"
         );
     }
     if end.attempt < course.retries && course.unless_exit == Some(value) {
         return writeln!(
             text,
-            "    retries  none: {value} is the value of its UNLESS-EXIT"
+            "retries  none: {value} is the value of its UNLESS-EXIT"
         );
     }
     Ok(())
@@ -353,7 +354,7 @@ pub(crate) fn story_of(run: &Run<'_, '_, '_>, node: u32, end: &Ended) -> Story {
     }
 }
 
-/// What is reported of a node in error: its line, and what comes after it.
+/// What is reported of a node in error: its line, and what comes after it, indented.
 ///
 /// # Errors
 /// Lack of memory.
@@ -386,5 +387,6 @@ pub(crate) fn failure_block<R: Files<File = File> + AllocGlobal>(
         failure.waiting,
     )?;
     text.push_str(rest.as_str())?;
-    Ok(text)
+    let block = hung(rt.alloc(), text.as_str())?;
+    Ok(block)
 }

@@ -1,9 +1,11 @@
 //! What is reported of a node that is not in error: that it runs, is done, is ready or waits, and for whom.
 
-ghost use Rattle.std.specs.Prelude.{◌≤◌};
+ghost use Rattle.std.specs.Prelude.{◌≤◌, IfOk, string_bytes};
 ghost use Rattle.run_plan.specs.Plan.{count_of};
+ghost use Rattle.failure_report.specs.Reported.{IsStandingBlock};
 
 use crate::failed::is_in_error;
+use crate::hanging::hung;
 use crate::heads::{phase_words, push_attempt, push_ending};
 use crate::reported::{Run, Story, push_story};
 use log_lines::unquoted;
@@ -127,7 +129,7 @@ fn push_waits(
     if causes.is_empty() || parents == causes {
         return Ok(());
     }
-    text.push_str("    because of ")?;
+    text.push_str("because of ")?;
     push_names(text, core, &causes)?;
     text.push('\n')
 }
@@ -160,7 +162,7 @@ fn push_done(text: &mut String, spec: &NodeSpec, end: Option<Ended>) -> Result<(
 fn push_last(text: &mut String, end: Option<Ended>, retries: u32) -> Result<(), AllocError> {
     match end {
         Some(end) => {
-            text.push_str("    before that, ")?;
+            text.push_str("before that, ")?;
             push_end(text, &end, retries)?;
             text.push('\n')
         }
@@ -215,7 +217,7 @@ fn push_since<R: Files + AllocGlobal>(
     if is_gone(rt, process)? {
         writeln!(
             text,
-            "    process  {process} is not there any more: its manager has not told how it ended; where none works, dagrun run goes on with the round"
+            "process  {process} is not there any more: its manager has not told how it ended; where none works, dagrun run goes on with the round"
         )?;
     }
     Ok(())
@@ -246,23 +248,17 @@ fn push_running<R: Files<File = File> + AllocGlobal>(
     }
 }
 
-/// Adds what is reported of a node that is not in error.
-///
-/// # Errors
-/// Lack of memory.
-pub(crate) fn push_standing<R: Files<File = File> + AllocGlobal>(
+/// Adds what is reported of a node that is not in error, after its name.
+fn push_standing<R: Files<File = File> + AllocGlobal>(
     rt: &R,
     text: &mut String,
     run: &Run<'_, '_, '_>,
     node: u32,
-) -> Result<(), AllocError> {
-    let (core, plan) = (run.core, run.core.plan());
-    if node > plan.count() {
-        return Ok(());
-    }
-    let spec = plan.spec(node);
-    let name = spec.name();
-    write!(text, "{name} ")?;
+) -> Result<(), AllocError>
+    requires { node ≤ count_of run.now.core.now.plan }
+{
+    let core = run.core;
+    let spec = core.plan().spec(node);
     let retries = spec.course().retries;
     match (status_at(core, node), core.next(node)) {
         (Status::Done, _) => push_done(text, spec, run.end_of(node)),
@@ -272,4 +268,27 @@ pub(crate) fn push_standing<R: Files<File = File> + AllocGlobal>(
         (Status::Ready, Some(key)) => push_ready(text, run, spec, &key),
         _ => push_waits(rt.alloc(), text, core, node),
     }
+}
+
+/// What is reported of a node that is not in error: its name, and how it is; lines after the first are indented.
+///
+/// # Errors
+/// Lack of memory.
+pub(crate) fn standing_block<R: Files<File = File> + AllocGlobal>(
+    rt: &R,
+    run: &Run<'_, '_, '_>,
+    node: u32,
+) -> Result<String, AllocError>
+    ensures { IfOk result (λ block. IsStandingBlock run.now.core.now.plan node (string_bytes block)) }
+{
+    let mut text = String::new(rt.alloc());
+    if node > run.core.plan().count() {
+        return Ok(text);
+    }
+    let mut words = String::new(rt.alloc());
+    push_standing(rt, &mut words, run, node)?;
+    let name = run.core.plan().spec(node).name();
+    write!(text, "{name} {words}")?;
+    let block = hung(rt.alloc(), text.as_str())?;
+    Ok(block)
 }

@@ -16,7 +16,7 @@ use crate::notes::LogNotes;
 use crate::numbers::{Named, numbers_of};
 use crate::reported::{Run, failure_block};
 use crate::same::group_block;
-use crate::standing::push_standing;
+use crate::standing::standing_block;
 use crate::waiting::{held_lists, waiting_for};
 use log_lines::unquoted;
 use node_machine::Ended;
@@ -190,17 +190,6 @@ fn push_round(text: &mut String, core: &Core<'_>) -> Result<(), AllocError> {
 /// What is between a text and the next node: an empty line, where something is before it.
 fn gap_behind(text: &str) -> &'static str {
     if text.is_empty() { "" } else { "\n" }
-}
-
-/// What is reported of a node that is not in error.
-fn standing_block<R: Files<File = File> + AllocGlobal>(
-    rt: &R,
-    run: &Run<'_, '_, '_>,
-    node: u32,
-) -> Result<String, AllocError> {
-    let mut text = String::new(rt.alloc());
-    push_standing(rt, &mut text, run, node)?;
-    Ok(text)
 }
 
 /// What is reported of a node.

@@ -1,3 +1,4 @@
+pub mod Codes
 pub mod Guide
 pub mod Near
 pub mod Told

@@ -1,6 +1,7 @@
 -- What is displayed after the line of a refusal.
 use Rattle.std.specs.Prelude.{◌≡◌, ◌||◌, ℕ, Bool, true, false, List, [], ◌++◌, Option, Some, None, find, codes, option_map, if◌then◌else◌}
 use Rattle.std.specs.Str.{bytes_eq}
+use Rattle.fault_guide.specs.Codes.{AreAllFaults}
 use Rattle.fault_guide.specs.Guide.{has_code}
 use Rattle.fault_guide.specs.declared.guide.Fault.{Fault}
 use Rattle.std.specs.Borrow.{Bor}
@@ -22,12 +23,13 @@ guide_text code None = []
 guide_text code (Some fault) =
     if tells_what_to_write code then fault.advice.now else codes "    dagrun explain " ++ (code ++ codes " says more\n")
 
--- what some guide says of the fault of this code comes after a text
+-- what the guide, which has all faults, says of the fault of this code comes after a text
 pub record IsGuideText (code before now : List ℕ) : Type 0 where
   pub guide : List (Bor Fault)
+  pub has_all : AreAllFaults guide
   pub added : now ≡ before ++ guide_text code (option_map (λ f. f.now) (find (λ f. has_code code f.now) guide))
 
--- What is said of what to do about a fault: what some guide says of it; or, of a word of DAGMan's that is left out and that the file has at that place, what
+-- What is said of what to do about a fault: what the guide says of it; or, of a word of DAGMan's that is left out and that the file has at that place, what
 -- to write in place of this very word.
 pub data IsAdvice (code : List ℕ) (has_source : Bool) (before now : List ℕ) : Type 0 where
   of_guide : IsGuideText code before now → IsAdvice code has_source before now

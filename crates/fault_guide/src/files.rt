@@ -1,5 +1,8 @@
 //! The faults of the files of a DAG and of its graph.
 
+ghost use Rattle.std.specs.Prelude.{◌≡◌, map};
+ghost use Rattle.fault_guide.specs.Codes.{code_of_fault, file_codes};
+
 use crate::guide::Fault;
 
 static FILES: [Fault; 11] = [
@@ -173,6 +176,8 @@ static FILES: [Fault; 11] = [
     },
 ];
 
-pub(crate) fn faults() -> &'static [Fault] {
+pub(crate) fn faults() -> &'static [Fault]
+    ensures { map code_of_fault result.now ≡ file_codes }
+{
     &FILES
 }

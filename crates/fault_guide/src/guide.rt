@@ -1,6 +1,7 @@
 //! What is displayed of a fault, from the table of faults.
 
 ghost use Rattle.std.specs.Prelude.{◌≡◌, ◌++◌, map, find, OnOk, IfOk, string_bytes, option_map};
+ghost use Rattle.fault_guide.specs.Codes.{AreAllFaults, code_of_fault, lent_codes};
 ghost use Rattle.fault_guide.specs.Guide.{has_code, part_text, page_text, list_line, list_text};
 
 use crate::{files, inner, jobs, lines, rounds, running};
@@ -19,7 +20,9 @@ pub struct Fault {
 }
 
 /// Adds these faults after the others.
-fn add_all(all: &mut Vec<&'static Fault>, part: &'static [Fault]) -> Result<(), AllocError> {
+fn add_all(all: &mut Vec<&'static Fault>, part: &'static [Fault]) -> Result<(), AllocError>
+    ensures { OnOk result (lent_codes all.new.items ≡ lent_codes all.old.items ++ map code_of_fault part.now) }
+{
     for fault in part {
         all.push(fault)?;
     }
@@ -31,7 +34,9 @@ fn add_all(all: &mut Vec<&'static Fault>, part: &'static [Fault]) -> Result<(), 
 ///
 /// # Errors
 /// Lack of memory, and nothing else.
-pub fn faults(alloc: Global) -> Result<Vec<&'static Fault>, AllocError> {
+pub fn faults(alloc: Global) -> Result<Vec<&'static Fault>, AllocError>
+    ensures { IfOk result (λ all. AreAllFaults all.items) }
+{
     let mut all = Vec::new(alloc);
     for part in [
         lines::faults(),

@@ -1,5 +1,8 @@
 //! Faults that no command tells by their own code: of the files of a DAG, and of memory.
 
+ghost use Rattle.std.specs.Prelude.{◌≡◌, map};
+ghost use Rattle.fault_guide.specs.Codes.{code_of_fault, inner_file_codes, inner_part_codes, inner_run_codes};
+
 use crate::guide::Fault;
 
 static OF_FILES: [Fault; 11] = [
@@ -104,7 +107,9 @@ static OF_FILES: [Fault; 11] = [
     },
 ];
 
-pub(crate) fn of_files() -> &'static [Fault] {
+pub(crate) fn of_files() -> &'static [Fault]
+    ensures { map code_of_fault result.now ≡ inner_file_codes }
+{
     &OF_FILES
 }
 
@@ -201,7 +206,9 @@ static OF_PARTS: [Fault; 10] = [
     },
 ];
 
-pub(crate) fn of_parts() -> &'static [Fault] {
+pub(crate) fn of_parts() -> &'static [Fault]
+    ensures { map code_of_fault result.now ≡ inner_part_codes }
+{
     &OF_PARTS
 }
 
@@ -316,6 +323,8 @@ static OF_RUNS: [Fault; 12] = [
     },
 ];
 
-pub(crate) fn of_runs() -> &'static [Fault] {
+pub(crate) fn of_runs() -> &'static [Fault]
+    ensures { map code_of_fault result.now ≡ inner_run_codes }
+{
     &OF_RUNS
 }

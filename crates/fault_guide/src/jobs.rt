@@ -1,5 +1,8 @@
 //! The faults of submit files and of the texts of jobs.
 
+ghost use Rattle.std.specs.Prelude.{◌≡◌, map};
+ghost use Rattle.fault_guide.specs.Codes.{code_of_fault, job_codes};
+
 use crate::guide::Fault;
 
 static JOBS: [Fault; 13] = [
@@ -235,6 +238,8 @@ static JOBS: [Fault; 13] = [
     },
 ];
 
-pub(crate) fn faults() -> &'static [Fault] {
+pub(crate) fn faults() -> &'static [Fault]
+    ensures { map code_of_fault result.now ≡ job_codes }
+{
     &JOBS
 }

@@ -3,8 +3,6 @@
 //! write instead.
 #![tactic(auto)]
 
-#[cfg(test)]
-mod checks;
 mod excerpt;
 mod files;
 mod guide;

@@ -1,5 +1,8 @@
 //! The faults of lines of a DAG file.
 
+ghost use Rattle.std.specs.Prelude.{◌≡◌, map};
+ghost use Rattle.fault_guide.specs.Codes.{code_of_fault, line_codes};
+
 use crate::guide::Fault;
 
 static LINES: [Fault; 9] = [
@@ -141,6 +144,8 @@ static LINES: [Fault; 9] = [
     },
 ];
 
-pub(crate) fn faults() -> &'static [Fault] {
+pub(crate) fn faults() -> &'static [Fault]
+    ensures { map code_of_fault result.now ≡ line_codes }
+{
     &LINES
 }

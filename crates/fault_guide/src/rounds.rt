@@ -1,5 +1,8 @@
 //! The faults of tables of outcomes, rescue files and journals.
 
+ghost use Rattle.std.specs.Prelude.{◌≡◌, map};
+ghost use Rattle.fault_guide.specs.Codes.{code_of_fault, round_codes};
+
 use crate::guide::Fault;
 
 static ROUNDS: [Fault; 21] = [
@@ -168,14 +171,17 @@ static ROUNDS: [Fault; 21] = [
 ",
         advice: "    A round goes on only with the files that it began with: the DAG file, its
     splices, the submit files and the rescue file that it read. Which of them was
-    changed `sha256sum -c x.dag.inputs` says: put it back. Where it is to stay as
-    it is now, call `dagrun salvage x.dag`, which makes a rescue file of what is
-    done, and then `dagrun run x.dag`, which starts the rest. A round that has
-    ended is no hindrance: `dagrun run` begins the next one, by the rescue file
-    that the round has left. It leaves none where all was done: then all nodes
-    run, or none that is done where `dagrun salvage --ended x.dag` is called
-    first. To give up a round that was cut short, remove x.dag.journal: then
-    nodes that were done in it run again.
+    changed `sha256sum -c x.dag.inputs` says: put it back. While a manager works
+    on the round, `--as-begun` shows it, and the next one goes by what was changed.
+    Where a file is to stay as it is now, call `dagrun salvage x.dag`, which makes
+    a rescue file of what is done, and then `dagrun run x.dag`, which starts the
+    rest. A round that has ended is no hindrance: `dagrun run` begins the next one,
+    by the rescue file that the round has left. It leaves none where all was done:
+    then all nodes run, or none that is done where `dagrun salvage --ended x.dag`
+    is called first. If nodes that are done are to run again with what was changed,
+    call `dagrun redo --as-begun x.dag NODE ..` first. A round that was cut short
+    and that no manager works on is given up by removing its journal
+    (x.dag.journal): then nodes that were done in it run again.
 ",
     },
     Fault {
@@ -310,6 +316,8 @@ static ROUNDS: [Fault; 21] = [
     },
 ];
 
-pub(crate) fn faults() -> &'static [Fault] {
+pub(crate) fn faults() -> &'static [Fault]
+    ensures { map code_of_fault result.now ≡ round_codes }
+{
     &ROUNDS
 }

@@ -1,5 +1,8 @@
 //! The faults of children and of the system, and the answers of an audit.
 
+ghost use Rattle.std.specs.Prelude.{◌≡◌, map};
+ghost use Rattle.fault_guide.specs.Codes.{code_of_fault, running_codes};
+
 use crate::guide::Fault;
 
 static RUNNING: [Fault; 9] = [
@@ -97,13 +100,14 @@ static RUNNING: [Fault; 9] = [
         advice: "    Where a file .halt is named, remove that file, and call `dagrun run` again,
     which goes on: what ended is recorded, and no child was killed. Where
     --stop-at-first-error is named, a node failed for good: `dagrun why` says how,
-    and `dagrun run` without the option runs what does not wait for it. Where the
-    DAG file is named, its folder was renamed or replaced while the run went on:
-    give the folder its name again, and make the same call. Where that call
-    named the DAG file without a folder, it can be made in the folder as it is,
-    too. Where the journal is named, it was removed or replaced while the run went
-    on: nothing more was started. What ran has ended; its endings are not known to
-    the next run.
+    and `dagrun run` without the option runs what does not wait for it. To run the
+    node again, mend it, call `dagrun redo` with the DAG file, and then `dagrun
+    run`. Where the DAG file is named, its folder was renamed or replaced while the
+    run went on: give the folder its name again, and make the same call. Where that
+    call named the DAG file without a folder, it can be made in the folder as it
+    is, too. Where the journal is named, it was removed or replaced while the run
+    went on: nothing more was started. What ran has ended; its endings are not
+    known to the next run.
 ",
     },
     Fault {
@@ -136,6 +140,8 @@ static RUNNING: [Fault; 9] = [
     },
 ];
 
-pub(crate) fn faults() -> &'static [Fault] {
+pub(crate) fn faults() -> &'static [Fault]
+    ensures { map code_of_fault result.now ≡ running_codes }
+{
     &RUNNING
 }

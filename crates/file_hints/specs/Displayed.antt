@@ -2,7 +2,7 @@
 use Rattle.std.specs.Prelude.{ℕ, List, ◌++◌, codes}
 use Rattle.std.specs.Fmt.{decimal}
 use Rattle.file_hints.specs.declared.hint.Hint.{Hint}
-use Rattle.file_hints.specs.declared.hint.Hint.TheVariants.{UnknownName, Misspelled, PassedOver, BelowQueue, Unassigned, MisspelledMacro, MissingProgram, Elsewhere, WordsInProgram, FolderAsProgram, SpecialAsProgram, NotExecutable, CarriageReturn, MissingReader, MissingFolder, SharedOutput, NoLog, NoEnvironment, OwnFolder, ContinuedComment, LaunchNumber, SkipValue, SignalValue, NoopScript}
+use Rattle.file_hints.specs.declared.hint.Hint.TheVariants.{UnknownName, Misspelled, PassedOver, BelowQueue, Unassigned, MisspelledMacro, MissingProgram, Elsewhere, WordsInProgram, FolderAsProgram, SpecialAsProgram, NotExecutable, CarriageReturn, MissingReader, MissingFolder, SharedOutput, CountedOutput, OwnFile, InputWritten, BareQuote, NoLog, NoEnvironment, OwnFolder, ContinuedComment, LaunchNumber, SkipValue, SignalValue, NoopScript}
 use Rattle.file_hints.specs.declared.hint.Finding.{Finding}
 
 -- what comes after the place
@@ -23,6 +23,10 @@ hint_text (CarriageReturn path word) = codes "the first line of " ++ (path ++ (c
 hint_text (MissingReader path reader) = codes "the first line of " ++ (path ++ (codes " names " ++ (reader ++ codes ", where no program is: name the one that reads it")))
 hint_text (MissingFolder path word) = codes "the folder " ++ (path ++ (codes " is not there: mkdir -p " ++ word))
 hint_text (SharedOutput path first second) = first ++ (codes " and " ++ (second ++ (codes " may run at once, and both write " ++ (path ++ codes ": put $(JOB) into its name"))))
+hint_text (CountedOutput path first second) = first ++ (codes " and " ++ (second ++ (codes " may both write " ++ (path ++ codes ", since $(Cluster) begins at 1 again in each round: put $(JOB) into its name"))))
+hint_text (OwnFile path) = path ++ codes " is a file of the DAG itself, and is emptied as the job starts: name another file"
+hint_text (InputWritten path) = path ++ codes " is the input of the job, too, and is emptied as it starts: name another file"
+hint_text BareQuote = codes "the double quotes in arguments are letters here, and HTCondor refuses them: write \"-c 'echo hi'\" for -c \"echo hi\", and \\\" for a letter"
 hint_text NoLog = codes "no log is named, and HTCondor keeps none for this job: write log = FILE"
 hint_text NoEnvironment = codes "the job has the environment of dagrun here, and none under HTCondor: write getenv = true"
 hint_text OwnFolder = codes "HTCondor runs the job in a folder of its own, where relative paths lead elsewhere: write universe = local"
@@ -50,6 +54,10 @@ topic_of (CarriageReturn path word) = codes "hint"
 topic_of (MissingReader path reader) = codes "hint"
 topic_of (MissingFolder path word) = codes "hint"
 topic_of (SharedOutput path first second) = codes "hint"
+topic_of (CountedOutput path first second) = codes "hint"
+topic_of (OwnFile path) = codes "hint"
+topic_of (InputWritten path) = codes "hint"
+topic_of BareQuote = codes "hint"
 topic_of NoLog = codes "condor"
 topic_of NoEnvironment = codes "condor"
 topic_of OwnFolder = codes "condor"

@@ -7,3 +7,5 @@ pub mod Programs
 pub mod Notes
 pub mod Outputs
 pub mod Commands
+pub mod Written
+pub mod Quotes

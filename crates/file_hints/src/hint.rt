@@ -74,6 +74,18 @@ pub enum Hint {
         first: Text,
         second: Text,
     },
+    /// The path that two nodes write whose job is the first one to be launched in a round.
+    CountedOutput {
+        path: Text,
+        first: Text,
+        second: Text,
+    },
+    /// The path of a file of the DAG itself, which a job writes.
+    OwnFile(Text),
+    /// The path of the input of a job, which the job writes.
+    InputWritten(Text),
+    /// Arguments of the old style with a double quote, which is a letter.
+    BareQuote,
     /// Under HTCondor: a submit file without `log`.
     NoLog,
     /// Under HTCondor: one without `getenv`.
@@ -163,6 +175,26 @@ impl fmt::Display for Hint {
                 f,
                 "{first} and {second} may run at once, and both write {path}: put $(JOB) into its name"
             ),
+            Hint::CountedOutput {
+                path,
+                first,
+                second,
+            } => write!(
+                f,
+                "{first} and {second} may both write {path}, since $(Cluster) begins at 1 again in each round: put $(JOB) into its name"
+            ),
+            Hint::OwnFile(path) => write!(
+                f,
+                "{path} is a file of the DAG itself, and is emptied as the job starts: name another file"
+            ),
+            Hint::InputWritten(path) => write!(
+                f,
+                "{path} is the input of the job, too, and is emptied as it starts: name another file"
+            ),
+            Hint::BareQuote => write!(
+                f,
+                "the double quotes in arguments are letters here, and HTCondor refuses them: write \"-c 'echo hi'\" for -c \"echo hi\", and \\\" for a letter"
+            ),
             Hint::NoLog => write!(
                 f,
                 "no log is named, and HTCondor keeps none for this job: write log = FILE"
@@ -248,6 +280,10 @@ fn topic_of(hint: &Hint) -> &'static str
         | Hint::CarriageReturn { .. }
         | Hint::MissingReader { .. }
         | Hint::MissingFolder { .. }
-        | Hint::SharedOutput { .. } => "hint",
+        | Hint::SharedOutput { .. }
+        | Hint::CountedOutput { .. }
+        | Hint::OwnFile(_)
+        | Hint::InputWritten(_)
+        | Hint::BareQuote => "hint",
     }
 }

@@ -1,16 +1,19 @@
 //! The submit files of a DAG's nodes.
 
+use crate::counted::CountedFiles;
 use crate::findings::Findings;
 use crate::job_outputs::Outputs;
 use crate::looking::{folder_of, look_at_folder, look_at_program};
+use crate::quote_hint;
+use crate::written::{DagFiles, look_at_written};
 use dag_reader::{Placement, Text};
-use run_plan_node::{ChildCommand, job_command};
+use run_plan_node::{ChildCommand, JobFault, job_command};
 use splices_flat::{FileSet, FlatDag, FlatNode, NameTable};
 use std::alloc::{AllocError, Global};
 use std::fs::File;
 use std::rt::{Env, Files};
 use submit_file::{Assignment, PlacedAssignment, SubmitFault, placed_assignments};
-use vars_macros::{Attempt, MacroFault, Macros};
+use vars_macros::{Attempt, Expanded, MacroFault, Macros, expand};
 
 /// A submit file: what it assigns, and what VARS lines assign for its nodes.
 #[derive(Drop)]
@@ -120,8 +123,21 @@ fn assign_settings(
     Ok(())
 }
 
-/// What is assigned to the names of a job, in the order in which it counts.
+/// What is assigned to the names of a job, in the order in which it counts, where that is possible.
 fn macros_of(
+    alloc: Global,
+    node: &FlatNode,
+    placed: &[PlacedAssignment],
+) -> Result<Option<Macros>, AllocError> {
+    match assigned_to(alloc, node, placed) {
+        Ok(macros) => Ok(Some(macros)),
+        Err(MacroFault::Memory) => Err(AllocError),
+        Err(_) => Ok(None),
+    }
+}
+
+/// The same, or the fault that is in the way.
+fn assigned_to(
     alloc: Global,
     node: &FlatNode,
     placed: &[PlacedAssignment],
@@ -138,29 +154,63 @@ fn macros_of(
     Ok(macros)
 }
 
-/// The command of a node's job in its first attempt, where its texts can be expanded. Each node has a launch number of
-/// its own, so that files that are named by it are kept apart.
-fn command_of(
+/// What a text of a job stands for, where it can be expanded.
+///
+/// # Errors
+/// Lack of memory.
+pub(crate) fn expanded_at(
     alloc: Global,
-    node: &FlatNode,
-    number: usize,
-    file: &JobFile,
-) -> Option<ChildCommand> {
-    let attempt = Attempt {
-        retry: 0,
-        launch: number as u64,
-    };
-    let macros = macros_of(alloc, node, file.placed.as_slice()).ok()?;
-    job_command(alloc, node.folder.as_str(), &macros, attempt).ok()
+    text: &str,
+    macros: &Macros,
+    attempt: Attempt,
+) -> Result<Option<Expanded>, AllocError> {
+    match expand(alloc, text, macros, attempt) {
+        Ok(expanded) => Ok(Some(expanded)),
+        Err(MacroFault::Memory) => Err(AllocError),
+        Err(_) => Ok(None),
+    }
 }
 
-/// What was asked of the system already.
+/// The command of a node's job, where its texts can be expanded.
+///
+/// # Errors
+/// Lack of memory.
+pub(crate) fn command_at(
+    alloc: Global,
+    node: &FlatNode,
+    macros: &Macros,
+    attempt: Attempt,
+) -> Result<Option<ChildCommand>, AllocError> {
+    match job_command(alloc, node.folder.as_str(), macros, attempt) {
+        Ok(command) => Ok(Some(command)),
+        Err(JobFault::Memory) => Err(AllocError),
+        Err(_) => Ok(None),
+    }
+}
+
+/// The first attempt of the node of this number. Each node has a launch number of its own, so that files that are named by it
+/// are kept apart.
+fn attempt_of(number: usize) -> Attempt {
+    Attempt {
+        retry: 0,
+        launch: number as u64,
+    }
+}
+
+/// What was asked of the system already, or told.
 #[derive(Drop)]
 struct Asked {
     known: NameTable,
 }
 
 impl Asked {
+    /// Nothing so far.
+    fn new(alloc: Global) -> Asked {
+        Asked {
+            known: NameTable::new(alloc),
+        }
+    }
+
     /// Whether this path was not asked for yet in a file.
     fn is_new(&mut self, alloc: Global, what: &str, path: &str) -> Result<bool, AllocError> {
         let front = Text::joined(alloc, what, "\n")?;
@@ -173,22 +223,75 @@ impl Asked {
     }
 }
 
+/// What is known while jobs are looked at.
+#[derive(Drop)]
+struct Look<'a> {
+    dag: DagFiles<'a>,
+    asked: Asked,
+    /// The streams of each submit file of which it was told that a job should not write their file.
+    told: Asked,
+    counted: CountedFiles<'a>,
+}
+
 /// Adds what is odd in the folder of the file that takes a stream.
-fn add_stream<R: Files<File = File> + AllocGlobal>(
+fn add_stream_folder<R: Files<File = File> + AllocGlobal>(
     rt: &R,
-    asked: &mut Asked,
+    look: &mut Look<'_>,
     file: &JobFile,
     stream: &str,
-    path: &Option<Text>,
+    path: &str,
     findings: &mut Findings,
 ) -> Result<(), AllocError> {
-    let Some(path) = path else {
-        return Ok(());
-    };
-    let folder = folder_of(path.as_str());
-    if asked.is_new(rt.alloc(), file.path.as_str(), folder)? {
+    let folder = folder_of(path);
+    if look.asked.is_new(rt.alloc(), file.path.as_str(), folder)? {
         let hint = look_at_folder(rt, folder)?;
         findings.add_hint(file.path.as_str(), file.line_of(stream), hint)?;
+    }
+    Ok(())
+}
+
+/// Adds it where the file of this path, which takes a stream, is one that no job should write: of each stream of a submit file
+/// once, since a sweep has a thousand such files for one reason.
+fn add_stream_file(
+    alloc: Global,
+    look: &mut Look<'_>,
+    file: &JobFile,
+    stream: &str,
+    path: &str,
+    input: &Option<Text>,
+    findings: &mut Findings,
+) -> Result<(), AllocError> {
+    let Some(hint) = look_at_written(alloc, look.dag, input, path)? else {
+        return Ok(());
+    };
+    if look.told.is_new(alloc, file.path.as_str(), stream)? {
+        findings.add_hint(file.path.as_str(), file.line_of(stream), Some(hint))?;
+    }
+    Ok(())
+}
+
+/// Adds what is odd in the files that take the streams of a job.
+fn add_streams<R: Files<File = File> + AllocGlobal>(
+    rt: &R,
+    look: &mut Look<'_>,
+    file: &JobFile,
+    command: &ChildCommand,
+    findings: &mut Findings,
+) -> Result<(), AllocError> {
+    for (stream, path) in [("output", &command.output), ("error", &command.error)] {
+        if let Some(path) = path {
+            let path = path.as_str();
+            add_stream_folder(rt, look, file, stream, path, findings)?;
+            add_stream_file(
+                rt.alloc(),
+                look,
+                file,
+                stream,
+                path,
+                &command.input,
+                findings,
+            )?;
+        }
     }
     Ok(())
 }
@@ -196,24 +299,60 @@ fn add_stream<R: Files<File = File> + AllocGlobal>(
 /// Adds what is odd in the files of a job.
 fn add_command<R: Files<File = File> + Env + AllocGlobal>(
     rt: &R,
-    asked: &mut Asked,
+    look: &mut Look<'_>,
     file: &JobFile,
     command: &ChildCommand,
     findings: &mut Findings,
 ) -> Result<(), AllocError> {
     let path = file.path.as_str();
     let program = command.program.as_str();
-    if asked.is_new(rt.alloc(), path, program)? {
+    if look.asked.is_new(rt.alloc(), path, program)? {
         let hint = look_at_program(rt, program)?;
         findings.add_hint(path, file.line_of("executable"), hint)?;
     }
     let folder = command.folder.as_str();
-    if asked.is_new(rt.alloc(), path, folder)? {
+    if look.asked.is_new(rt.alloc(), path, folder)? {
         let hint = look_at_folder(rt, folder)?;
         findings.add_hint(path, file.line_of("initialdir"), hint)?;
     }
-    add_stream(rt, asked, file, "output", &command.output, findings)?;
-    add_stream(rt, asked, file, "error", &command.error, findings)
+    add_streams(rt, look, file, command, findings)
+}
+
+/// Adds what is odd in the arguments of a job.
+fn add_arguments(
+    alloc: Global,
+    macros: &Macros,
+    attempt: Attempt,
+    file: &JobFile,
+    findings: &mut Findings,
+) -> Result<(), AllocError> {
+    let Some(arguments) = expanded_at(alloc, "$(arguments)", macros, attempt)? else {
+        return Ok(());
+    };
+    let hint = quote_hint(arguments.text.as_str());
+    findings.add_hint(file.path.as_str(), file.line_of("arguments"), hint)
+}
+
+/// Adds what is odd in the job of a node, and gives its command, where its texts can be expanded.
+fn add_job<'a, R: Files<File = File> + Env + AllocGlobal>(
+    rt: &R,
+    look: &mut Look<'a>,
+    node: &'a FlatNode,
+    attempt: Attempt,
+    file: &JobFile,
+    findings: &mut Findings,
+) -> Result<Option<ChildCommand>, AllocError> {
+    let alloc = rt.alloc();
+    let Some(macros) = macros_of(alloc, node, file.placed.as_slice())? else {
+        return Ok(None);
+    };
+    let Some(command) = command_at(alloc, node, &macros, attempt)? else {
+        return Ok(None);
+    };
+    add_command(rt, look, file, &command, findings)?;
+    add_arguments(alloc, &macros, attempt, file, findings)?;
+    look.counted.add(alloc, node, &macros, file, findings)?;
+    Ok(Some(command))
 }
 
 /// Adds what is odd in the files of all jobs, and says which files each ordinary node writes.
@@ -222,13 +361,17 @@ fn add_command<R: Files<File = File> + Env + AllocGlobal>(
 /// Lack of memory.
 pub(crate) fn add_commands<R: Files<File = File> + Env + AllocGlobal>(
     rt: &R,
+    files: DagFiles<'_>,
     jobs: &JobFiles,
     dag: &FlatDag,
     findings: &mut Findings,
 ) -> Result<Vec<Outputs>, AllocError> {
     let alloc = rt.alloc();
-    let mut asked = Asked {
-        known: NameTable::new(alloc),
+    let mut look = Look {
+        dag: files,
+        asked: Asked::new(alloc),
+        told: Asked::new(alloc),
+        counted: CountedFiles::new(alloc),
     };
     let mut outputs = Vec::new(alloc);
     for (number, node) in dag.nodes().iter().chain(dag.final_node()).enumerate() {
@@ -236,8 +379,8 @@ pub(crate) fn add_commands<R: Files<File = File> + Env + AllocGlobal>(
         let mut written = Outputs::none();
         if let Some(place) = place {
             if let Some(file) = jobs.files.get(place) {
-                if let Some(command) = command_of(alloc, node, number, file) {
-                    add_command(rt, &mut asked, file, &command, findings)?;
+                let attempt = attempt_of(number);
+                if let Some(command) = add_job(rt, &mut look, node, attempt, file, findings)? {
                     written = Outputs::of(alloc, place, &command)?;
                 }
             }

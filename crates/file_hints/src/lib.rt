@@ -3,6 +3,7 @@
 #![tactic(auto)]
 
 mod commands;
+mod counted;
 mod findings;
 mod hint;
 mod job_outputs;
@@ -15,10 +16,12 @@ mod notes;
 mod opened;
 mod outputs;
 mod programs;
+mod quotes;
 mod scripts;
 mod shell_path;
 mod submit;
 mod told;
+mod written;
 
 pub use commands::dag_notes;
 pub use hint::{Finding, Hint, finding_line};
@@ -29,5 +32,7 @@ pub use names::{CommandNames, command_names};
 pub use notes::{comment_notes, submit_notes};
 pub use outputs::{Clash, Writer, clashes};
 pub use programs::{ProgramState, folder_hint, program_hint, state_by};
+pub use quotes::quote_hint;
 pub use submit::submit_hints;
 pub use told::{Wanted, hints_of};
+pub use written::{is_own_ending, written_hint};

@@ -7,6 +7,7 @@ use crate::job_outputs::add_clashes;
 use crate::jobs::{JobFiles, add_commands};
 use crate::opened::{lines_of, opened_files};
 use crate::scripts::add_scripts;
+use crate::written::DagFiles;
 use crate::{
     command_names, comment_notes, dag_notes, submit_hints, submit_notes, with_meant,
     with_meant_macros,
@@ -112,7 +113,8 @@ fn add_submitted(
     Ok(())
 }
 
-/// Adds what the system says to be odd in programs, scripts and folders, and the files that two nodes write.
+/// Adds what the system says to be odd in programs, scripts and folders, what is odd in the files of jobs and in their arguments, and the
+/// files that two nodes write.
 fn add_looked_at<R: Files<File = File> + Env + AllocGlobal>(
     rt: &R,
     files: &FileSet,
@@ -125,7 +127,7 @@ fn add_looked_at<R: Files<File = File> + Env + AllocGlobal>(
     for one in opened_files(alloc, files, top)?.iter() {
         add_scripts(rt, files, one, findings)?;
     }
-    let outputs = add_commands(rt, jobs, &dag, findings)?;
+    let outputs = add_commands(rt, DagFiles { files, top }, jobs, &dag, findings)?;
     match Graph::build(alloc, dag) {
         Ok(graph) => add_clashes(alloc, &graph, jobs, outputs.as_slice(), findings),
         Err(GraphFault::Memory) => Err(AllocError),

@@ -1,5 +1,5 @@
 -- What comes before the commands of jobs (docs/MANUAL.md, "On a cluster: --launcher").
-use Rattle.std.specs.Prelude.{ℕ, Bool, true, false, not, ◌&&◌, ◌==◌, List, ◌∷◌, ◌++◌, Option, Some, None, if◌then◌else◌}
+use Rattle.std.specs.Prelude.{◌≡◌, ℕ, Bool, true, false, not, ◌&&◌, ◌==◌, List, ◌∷◌, ◌++◌, Option, Some, None, if◌then◌else◌}
 use Rattle.splices_flat.specs.Paths.{join}
 use Rattle.node_machine.specs.declared.Key.{Key}
 use Rattle.node_machine.specs.declared.Phase.{Phase}
@@ -37,3 +37,13 @@ abbrev pub started_by : Launcher → List ℕ → Key → NodeSpec → ChildComm
 started_by launcher folder key node command =
     if has_launcher launcher.spared key
     then behind_launcher launcher.program launcher.words folder (requests_of node key.attempt) command else command
+
+-- what the child of a key prints is kept: it is a script
+abbrev pub is_output_kept : Launcher → Key → Bool
+is_output_kept launcher key = launcher.keeps_output && not (is_job key.phase)
+
+-- The child of a key is started by this command, which has that one of its own: by the one above. Where what it prints is kept, other files may take
+-- its output and its errors.
+pub record IsStartedBy (launcher : Launcher) (folder : List ℕ) (key : Key) (node : NodeSpec) (own started : ChildCommand) : Type 0 where
+  pub is : started ≡ record (started_by launcher folder key node own) { output = started.output; error = started.error }
+  pub streams : is_output_kept launcher key ≡ false → started ≡ started_by launcher folder key node own

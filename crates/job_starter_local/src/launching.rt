@@ -1,7 +1,7 @@
 //! What comes before the commands of jobs.
 
 ghost use Rattle.std.specs.Prelude.{◌≡◌, ◌∷◌, ◌++◌, None, IfOk, OnOk, unwrap_or};
-ghost use Rattle.job_starter_local.specs.Launching.{is_job, is_spared, has_launcher, started_by};
+ghost use Rattle.job_starter_local.specs.Launching.{is_job, is_output_kept, is_spared, has_launcher, started_by};
 
 use dag_reader::{Text, Texts};
 use node_machine::{Key, Phase};
@@ -57,7 +57,9 @@ impl Launcher {
     }
 
     /// Whether what the child of this key prints is kept: it is a script.
-    pub(crate) fn keeps(&self, key: &Key) -> bool {
+    pub(crate) fn keeps(&self, key: &Key) -> bool
+        ensures { result ≡ is_output_kept self.now key.now }
+    {
         self.keeps_output && !is_job(key.phase)
     }
 

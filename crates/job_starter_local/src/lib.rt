@@ -3,12 +3,14 @@
 //! The rules are those of the HTCondor manual, DAGMan workflows, as docs/MANUAL.md states them.
 #![tactic(auto)]
 
-ghost use Rattle.std.specs.Prelude.{◌≡◌, ◌∷◌, [], ◌≤◌, ◌<◌, None, Some, pos, ℕ, length, map, reverse, vec_len, vec_capacity, IsTrue, IfOk, IfSome};
-ghost use Rattle.std.specs.Process.{exit_code, exit_signal};
+ghost use Rattle.std.specs.Prelude.{◌≡◌, ◌∷◌, [], ◌≤◌, ◌<◌, None, Some, pos, ℕ, length, map, reverse, vec_len, vec_capacity, slice_get, unwrap_or, IsSome, IsTrue, IfOk, IfSome};
+ghost use Rattle.std.specs.Process.{child_status, exit_code, exit_signal};
 ghost use Rattle.node_machine.specs.Story.{is_possible};
+ghost use Rattle.run_plan.specs.Plan.{node_at};
 ghost use Rattle.sched_core.specs.Run.{is_among, without};
 ghost use Rattle.job_starter_drive.specs.Calls.{running, any_ending};
 ghost use Rattle.job_starter_local.specs.Commands.{longest_pause};
+ghost use Rattle.job_starter_local.specs.Launching.{IsStartedBy};
 
 mod ending;
 mod launching;
@@ -262,6 +264,8 @@ fn wait_at<R: Processes>(
     ensures same { map (λ child. child.key) children.new.items
         ≡ map (λ child. child.key) children.old.items }
     ensures many { vec_len children.new ≡ vec_len children.old }
+    ensures kept { IfOk result (λ status.
+        slice_get (map (λ child. child_status child.child) children.new.items) place ≡ Some (Some status)) }
 {
     children[place].child.wait()
 }
@@ -282,6 +286,9 @@ fn kill_at<R: Processes>(children: &mut Vec<RunningChild<R>>, place: usize) -> K
     ensures same { map (λ child. child.key) children.new.items
         ≡ map (λ child. child.key) children.old.items }
     ensures many { vec_len children.new ≡ vec_len children.old }
+    // It is only said to have ended where the wait has told how.
+    ensures ended { result ≡ Killed.Ended
+        → IfSome (slice_get (map (λ child. child_status child.child) children.new.items) place) IsSome }
 {
     if signal_at(children, place).is_err() || wait_at(children, place).is_err() {
         return Killed::LetGo;
@@ -365,7 +372,9 @@ fn start_in_time<R: Processes + Files<File = File> + Clock, W: ChildWatcher>(
 }
 
 /// What the files say of a node of a plan.
-fn spec_in<'a>(plan: &'a Plan, node: u32) -> &'a NodeSpec {
+fn spec_in<'a>(plan: &'a Plan, node: u32) -> &'a NodeSpec
+    ensures { result.now ≡ node_at plan.now node }
+{
     if node <= plan.count() {
         plan.spec(node)
     } else {
@@ -433,7 +442,10 @@ impl<'a, R: Processes + Files<File = File> + Clock + Drop, W: ChildWatcher + Dro
         name: &str,
         key: &Key,
         command: &ChildCommand,
-    ) -> Result<Option<ChildCommand>, AllocError> {
+    ) -> Result<Option<ChildCommand>, AllocError>
+        ensures { IfOk result (λ other. IsStartedBy self.now.launcher.now self.now.folder key.now
+            (node_at self.now.plan.now key.now.node) command.now (unwrap_or other command.now)) }
+    {
         if self.launcher.keeps(key) {
             let dag = self.identity.dag;
             return kept_command(self.alloc, &self.rt, dag, name, key, command);

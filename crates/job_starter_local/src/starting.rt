@@ -64,7 +64,15 @@ fn input_of<R: Files<File = File>>(
     }
 }
 
-/// The file that takes a stream of a child, made or emptied, where there is one.
+/// The file that takes the output of a child, where there is one.
+#[derive(Drop)]
+struct OutputFile(Option<File>);
+
+/// The file that takes the errors of a child, where there is one.
+#[derive(Drop)]
+struct ErrorFile(Option<File>);
+
+/// The file of this path, made or emptied, where there is one.
 fn file_of<R: Files<File = File>>(
     alloc: Global,
     rt: &R,
@@ -88,11 +96,37 @@ fn stream_to(file: Option<File>) -> Stdio {
     }
 }
 
+impl OutputFile {
+    /// Makes it the output of a command.
+    fn set(self, command: &mut Command) {
+        let OutputFile(file) = self;
+        command.stdout(stream_to(file));
+    }
+}
+
+impl ErrorFile {
+    /// Makes it what takes the errors of a command.
+    fn set(self, command: &mut Command) {
+        let ErrorFile(file) = self;
+        command.stderr(stream_to(file));
+    }
+}
+
 fn are_one_path(path: &Option<Text>, other: &Option<Text>) -> bool {
     match (path, other) {
         (Some(path), Some(other)) => path.as_str() == other.as_str(),
         _ => false,
     }
+}
+
+/// The file that takes the output of a child.
+fn output_of<R: Files<File = File>>(
+    alloc: Global,
+    rt: &R,
+    folder: &str,
+    call_log: &ChildCommand,
+) -> io::Result<OutputFile> {
+    Ok(OutputFile(file_of(alloc, rt, folder, &call_log.output)?))
 }
 
 /// The file that takes the errors of a child. One that takes its output, too, is opened once, and both
@@ -102,13 +136,13 @@ fn error_of<R: Files<File = File>>(
     rt: &R,
     folder: &str,
     call_log: &ChildCommand,
-    output: &Option<File>,
-) -> io::Result<Option<File>> {
-    match output {
-        Some(file) if are_one_path(&call_log.output, &call_log.error) => Ok(Some(
+    output: &OutputFile,
+) -> io::Result<ErrorFile> {
+    match &output.0 {
+        Some(file) if are_one_path(&call_log.output, &call_log.error) => Ok(ErrorFile(Some(
             file.try_clone()?,
-        )),
-        _ => file_of(alloc, rt, folder, &call_log.error),
+        ))),
+        _ => Ok(ErrorFile(file_of(alloc, rt, folder, &call_log.error)?)),
     }
 }
 
@@ -184,18 +218,14 @@ fn set_streams<R: Files<File = File>>(
         CommandPart::Input,
         input_of(alloc, rt, folder, &call_log.input),
     )?;
-    let output = at_part(
-        CommandPart::Output,
-        file_of(alloc, rt, folder, &call_log.output),
-    )?;
+    let output = at_part(CommandPart::Output, output_of(alloc, rt, folder, call_log))?;
     let error = at_part(
         CommandPart::Error,
         error_of(alloc, rt, folder, call_log, &output),
     )?;
-    command
-        .stdin(input)
-        .stdout(stream_to(output))
-        .stderr(stream_to(error));
+    command.stdin(input);
+    output.set(command);
+    error.set(command);
     Ok(())
 }
 

@@ -1,7 +1,7 @@
 -- The number of the next rescue file, by what a journal's header says.
 use Rattle.std.proofs.Common.{◌≡◌, ◌∙◌, ℕ, true, false, not, List, Some, None, sym, ap, subst}
 use Rattle.rescue_file.specs.Numbered.{IsFileNumber}
-use Rattle.event_journal_log.specs.declared.journal.Peek.{Peek}
+use Rattle.event_journal_log.specs.declared.decoded.Peek.{Peek}
 use Rattle.event_journal_log.specs.Image.{replay_of}
 use Rattle.event_journal_log.specs.Peeks.{ReadsPeek}
 use Rattle.dag_main_check.specs.declared.fault.RunFault.{RunFault}

@@ -1,8 +1,9 @@
 -- What `redo` answers, and why it is refused.
-use Rattle.std.specs.Prelude.{◌≡◌, ℕ, Bool, List, [], ◌++◌, Option, codes, string_bytes}
+use Rattle.std.specs.Prelude.{◌≡◌, ℕ, Bool, true, List, [], ◌++◌, Option, codes, string_bytes}
 use Rattle.node_machine.specs.declared.Record.{Record}
 use Rattle.rescue_file.specs.Numbered.{rescue_name_of}
 use Rattle.run_plan.specs.Plan.{Plan, count_of}
+use Rattle.event_journal_log.specs.Image.{replay_of}
 use Rattle.log_lines.specs.Words.{word_text}
 use Rattle.dag_main_check.specs.Warnings.{warning_lines}
 use Rattle.dag_main_check.specs.declared.fault.RunFault.{RunFault}
@@ -17,7 +18,7 @@ use Rattle.failure_report.specs.Named.{AreNumbers, IsUnknownName}
 use Rattle.salvage.specs.Refused.{IsNotOwn}
 use Rattle.salvage.specs.Salvaged.{report_line}
 use Rattle.redo.specs.Redone.{IsRedone}
-use Rattle.redo.specs.Numbers.{IsNextNumber, IsNoNextNumber}
+use Rattle.redo.specs.Numbers.{is_cut_short, IsNextNumber, IsNoNextNumber}
 use Rattle.redo.specs.declared.here.Found.{Found}
 use Rattle.redo.specs.declared.here.Found.TheVariants.{Marked, Unknown}
 
@@ -60,11 +61,11 @@ pub data IsRedo (may_hold : Holding) (paths : Paths) (path : List ℕ) (names : 
       (λ past. IsRedoAnswer (IsNextNumber paths path (journal_bytes journal)) plan past path names only text warnings status)) → IsRedo may_hold paths path names only text warnings status
 
 -- Why no rescue file of the DAG file of this path is written after a journal of these bytes: it has no number; the system refuses the rescue file of its
--- number, or to put the journal away; or memory ran out.
+-- number, or to put the journal of a round away that was cut short; or memory ran out.
 pub data IsNotWritten (path journal : List ℕ) : RunFault → Type 0 where
   unnumbered : (fault : RunFault) → IsNoNextNumber path journal fault → IsNotWritten path journal fault
   numbered_refused : (number : ℕ) (fault : RunFault) → IsNextNumber any_paths path journal number → IsRefusalOf (rescue_name_of path number) fault → IsNotWritten path journal fault
-  journal_stays : (fault : RunFault) → IsRefusalOf (journal_name_of path) fault → IsNotWritten path journal fault
+  journal_stays : (fault : RunFault) → is_cut_short (replay_of journal) ≡ true → IsRefusalOf (journal_name_of path) fault → IsNotWritten path journal fault
   writing_had_no_memory : IsNotWritten path journal Memory
 
 -- Why nothing may be written beside the DAG file of this path: a file is in the way, another manager has the lock, or the system refuses it; or memory ran out.

@@ -1,8 +1,7 @@
 //! Nodes of the last round that are to run again, from the files that are beside its DAG file.
 
-ghost use Rattle.std.specs.Prelude.{◌≡◌, ◌++◌, ℕ, [], map, IfOk, IfErr, string_bytes};
+ghost use Rattle.std.specs.Prelude.{◌≡◌, [], true, map, IfOk, IfErr, OnErr, string_bytes};
 ghost use Rattle.rescue_file.specs.Numbered.{IsFileNumber, rescue_name_of};
-ghost use Rattle.event_journal_log.specs.Image.{replay_of};
 ghost use Rattle.dag_main_check.specs.declared.fault.RunFault.TheVariants.{Memory};
 ghost use Rattle.salvage.specs.Salvaged.{report_line};
 ghost use Rattle.dag_main_files.specs.Beside.{journal_name_of, IsRefusalOf};
@@ -10,8 +9,8 @@ ghost use Rattle.dag_main_files.specs.Changes.{Makes};
 ghost use Rattle.dag_main_files.specs.Folder.{any_paths, these_paths};
 ghost use Rattle.dag_main_files.specs.Opened.{changing, fixed};
 ghost use Rattle.redo.specs.Answered.{no_round_line, IsMarkedOf, IsFoundOfNames, IsRedoReport, IsRedo, IsNotWritten, IsNoRedo};
-ghost use Rattle.redo.specs.Changes.{clears_cut_short, writes_redone, MakesRedone, MakesRedo};
-ghost use Rattle.redo.specs.Numbers.{is_cut_short, IsNextNumber};
+ghost use Rattle.redo.specs.Changes.{clears_cut_short, WritesMarks, MakesRedone, MakesRedo};
+ghost use Rattle.redo.specs.Numbers.{IsNextNumber};
 
 use crate::marks::{Redone, redone_text};
 use crate::numbers::next_number;
@@ -120,6 +119,7 @@ fn clear_cut_short<R: Files<File = File> + AllocGlobal + Copy + Drop>(
 ) -> Result<(), RunFault>
     ensures refused { IfErr result (IsRefusalOf (journal_name_of place.now.top.now)) }
     ensures changes { Makes result (clears_cut_short cut_short place.now.top.now) changes.old changes.new }
+    ensures was_cut_short { OnErr result (cut_short ≡ true) }
 {
     if !cut_short {
         return Ok(());
@@ -145,10 +145,10 @@ fn write_marked<R: Files<File = File> + AllocGlobal + Copy + Drop, F: Folder>(
         IsRedoReport (IsNextNumber (these_paths (F.has folder.now)) place.now.top.now journal.now) place.now.top.now marked.redone.done marked.total (string_bytes marked.warnings)
         (string_bytes answer.text) (string_bytes answer.warnings) answer.status) }
     ensures refused { IfErr result (IsNotWritten place.now.top.now journal.now) }
-    ensures changes { MakesRedone place.now.top.now result changes.old changes.new }
-    // That is the rescue file of the text, with the round's next number; and the journal is put away of a round that was cut short alone.
-    ensures exact { IfOk result (λ answer. (number : ℕ) × IsNextNumber any_paths place.now.top.now journal.now number
-        × (changes.new ≡ changes.old ++ writes_redone place.now.top.now number (string_bytes marked.redone.text) (is_cut_short (replay_of journal.now)))) }
+    // The rescue file has that text and the round's next number, and the journal is put away of a round that was cut short alone.
+    ensures changes { WritesMarks (λ number. IsNextNumber any_paths place.now.top.now journal.now number
+        × (F.honest folder.now → IsNextNumber (these_paths (F.has folder.now)) place.now.top.now journal.now number))
+        place.now.top.now journal.now (string_bytes marked.redone.text) marked.redone.done marked.total result changes.old changes.new }
 {
     let alloc = rt.alloc();
     let next = next_number(alloc, folder, place.top, journal)?;
@@ -189,7 +189,9 @@ fn redo_locked<R: Files<File = File> + AllocGlobal + Copy + Drop, F: Folder>(
     ensures refused { IfErr result (IsNoRedo changing place.now.top.now) }
     // The refusal too is for what the folder holds.
     ensures refused_held { F.honest folder.now → IfErr result (IsNoRedo (fixed (F.holds folder.now)) place.now.top.now) }
-    ensures changes { MakesRedone place.now.top.now result changes.old changes.new }
+    ensures changes { MakesRedone changing any_paths place.now.top.now (map (λ n. n.now) names.now) only result changes.old changes.new }
+    ensures changes_held { F.honest folder.now → MakesRedone (fixed (F.holds folder.now)) (these_paths (F.has folder.now)) place.now.top.now
+        (map (λ n. n.now) names.now) only result changes.old changes.new }
 {
     let alloc = rt.alloc();
     let round = open_round(alloc, folder, place.top)?;
@@ -269,8 +271,11 @@ pub fn redo_here<R: Files<File = File> + Clock + AllocGlobal + Copy + Drop, F: F
     ensures refused { IfErr result (IsNoRedo changing place.now.top.now) }
     // The refusal too is for what the folder holds.
     ensures refused_held { F.honest folder.now → IfErr result (IsNoRedo (fixed (F.holds folder.now)) place.now.top.now) }
-    // What it changes: under the lock the rescue file is written, and then the journal of a round that was cut short is put away.
-    ensures changes { MakesRedo place.now.top.now result changes.old changes.new }
+    // What it changes: under the lock the rescue file is written that it reports, and then the journal of a round that was cut short is put away.
+    ensures changes { MakesRedo changing any_paths place.now.top.now (map (λ n. n.now) names.now) only result changes.old changes.new }
+    // The rescue file is that of the files, the journal and the rescue files that the folder holds.
+    ensures changes_held { F.honest folder.now → MakesRedo (fixed (F.holds folder.now)) (these_paths (F.has folder.now)) place.now.top.now
+        (map (λ n. n.now) names.now) only result changes.old changes.new }
 {
     let alloc = rt.alloc();
     let journal = journal_path(alloc, place.top)?;

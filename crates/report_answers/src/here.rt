@@ -60,5 +60,5 @@ pub fn page_here<R: Files<File = File> + AllocGlobal, F: Folder>(
     has_own_log(rt, place, trust_owner)?;
     let opened = round.open(alloc, folder, place.top)?;
     let core = opened.core(alloc)?;
-    answer_of(rt, place, &core, opened.journal.is_some(), wanted)
+    answer_of(rt, place, &core, opened.journal.is_there(), wanted)
 }

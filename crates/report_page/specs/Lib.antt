@@ -1,5 +1,6 @@
 pub mod States
 pub mod Escaped
+pub mod Links
 pub mod Times
 pub mod Rows
 pub mod Drawings

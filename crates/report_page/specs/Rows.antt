@@ -1,10 +1,12 @@
 -- The rows of the table of nodes.
-use Rattle.std.specs.Prelude.{ℕ, zero, suc, ℤ, List, [], ◌++◌, Option, Some, None, length, slice_get, codes}
+use Rattle.std.specs.Prelude.{ℕ, zero, suc, ℤ, List, [], ◌++◌, Option, Some, None, length, slice_get, codes, if◌then◌else◌}
 use Rattle.std.specs.Borrow.{Bor}
 use Rattle.std.specs.Fmt.{decimal, signed_decimal}
+use Rattle.log_lines.specs.Words.{unquoted_of}
 use Rattle.report_page.specs.declared.values.Row.{Row}
 use Rattle.report_page.specs.States.{state_word, look_of, look_class}
 use Rattle.report_page.specs.Escaped.{escaped_text}
+use Rattle.report_page.specs.Links.{link_to, is_absolute}
 use Rattle.report_page.specs.Times.{some_seconds_shown}
 
 -- the value of the last attempt, or a dash where none ended
@@ -12,23 +14,40 @@ abbrev pub value_shown : Option ℤ → List ℕ
 value_shown None = codes "-"
 value_shown (Some value) = signed_decimal value
 
--- a command or a path, at the end of a paragraph
+-- a command or a path
 unfoldable pub code_text : List ℕ → List ℕ
-code_text text = codes "<code>" ++ (escaped_text text ++ codes "</code></p>")
+code_text text = codes "<code>" ++ (escaped_text text ++ codes "</code>")
 
--- a text that belongs to the job of a node, after its label
-unfoldable pub labelled_text : (label text : List ℕ) → List ℕ
-labelled_text label text = codes "<p>" ++ (label ++ code_text text)
+-- a path as a log quotes it, with a link to its file
+unfoldable pub linked_text : List ℕ → List ℕ
+linked_text text = codes "<a href=\"" ++ (link_to (unquoted_of text) ++ (codes "\">" ++ (code_text text ++ codes "</a>")))
+
+-- the same, with a link if the path is absolute
+unfoldable pub path_text : List ℕ → List ℕ
+path_text text = if is_absolute (unquoted_of text) then linked_text text else code_text text
+
+-- the command of the job of a node
+unfoldable pub command_text : List ℕ → List ℕ
+command_text command = codes "<p>" ++ (code_text command ++ codes "</p>")
+
+-- the same where it is known
+unfoldable pub some_command_text : Option (Bor (List ℕ)) → List ℕ
+some_command_text None = []
+some_command_text (Some command) = command_text command.now
+
+-- a path that belongs to the job of a node, after its label
+unfoldable pub labelled_text : (label path : List ℕ) → List ℕ
+labelled_text label path = codes "<p>" ++ (label ++ (path_text path ++ codes "</p>"))
 
 -- the same where it is known
 unfoldable pub job_place_text : (label : List ℕ) → Option (Bor (List ℕ)) → List ℕ
 job_place_text label None = []
-job_place_text label (Some text) = labelled_text label text.now
+job_place_text label (Some path) = labelled_text label path.now
 
--- what is known of the job of a node
+-- what is known of the job of a node: its command, its folder, and the files of its output and of its errors
 unfoldable pub job_text : Row → List ℕ
 job_text row =
-    job_place_text [] row.command ++ (job_place_text (codes "folder ") row.folder ++ (job_place_text (codes "output ") row.output ++ job_place_text (codes "errors ") row.error))
+    some_command_text row.command ++ (job_place_text (codes "folder ") row.folder ++ (job_place_text (codes "output ") row.output ++ job_place_text (codes "errors ") row.error))
 
 -- the fields of a row that say how its node is: name, state, attempts and value
 unfoldable pub status_cells : Row → List ℕ

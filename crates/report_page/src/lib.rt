@@ -11,6 +11,7 @@ mod groups;
 mod heads;
 mod levels;
 mod limits;
+mod links;
 mod placing;
 mod rows;
 mod script;

@@ -90,6 +90,7 @@ fn push_timeline(
 /// Adds the graph, the timeline, how full the limits were, and the table of the nodes.
 #[tactic(auto, unfolding(crate::specs::Pages::nodes_text))]
 fn push_nodes(
+    alloc: Global,
     text: &mut String,
     page: &Page<'_>,
     graph: &Drawing<'_>,
@@ -103,7 +104,7 @@ fn push_nodes(
     push_timeline(text, page.phases, timeline)?;
     push_limits(text, page.limits)?;
     push_own(text, "<h2>Nodes</h2>\n")?;
-    push_table(text, page.rows)
+    push_table(alloc, text, page.rows)
 }
 
 /// Adds what `audit` says of a round that has ended.
@@ -170,7 +171,7 @@ fn text_with(
     push_counts(&mut text, page.rows)?;
     push_why(&mut text, page.why)?;
     push_warnings(&mut text, page.warnings)?;
-    push_nodes(&mut text, page, graph, timeline)?;
+    push_nodes(alloc, &mut text, page, graph, timeline)?;
     push_end(&mut text, page)?;
     Ok(text)
 }

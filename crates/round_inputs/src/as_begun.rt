@@ -9,7 +9,8 @@ ghost use Rattle.round_inputs.specs.Begun.{begun_head, begun_text_of, rescue_kep
 ghost use Rattle.round_inputs.specs.AsBegun.{kept_at, kept_in, as_begun, digest_at, HasNoHeader, IsBegunRound, IsFileOf, IsNotOf, IsNotKnown, cause_of, IsSeenBy, IsNotSeenBy, IsNotBegun};
 ghost use Rattle.round_inputs.specs.declared.as_begun.NotKnown.TheVariants.{Refused};
 
-use crate::begun::{BadBegun, Begun, begun_in, push_begun_head};
+use crate::begun::{Begun, begun_in, push_begun_head};
+use crate::fault::BadBytes;
 use crate::listing::begun_path;
 use dag_main_check::RunFault;
 use dag_main_files::{Folder, journal_path, peek_in};
@@ -220,14 +221,14 @@ fn begun_of(alloc: Global, path: &Text, journal: &[u8], bytes: &[u8]) -> Result<
             let other = ManagerFault::Journal(JournalFault::OtherInputs);
             Err(NotKnown::NothingKept(RunFault::InManager(other)))
         }
-        Err(BadBegun::NotSpelled) => {
+        Err(BadBytes::NotSpelled) => {
             let fault = refused(alloc, path)?;
             if begins_as_kept(alloc, journal, bytes)? {
                 return Err(NotKnown::Refused(fault));
             }
             Err(NotKnown::NothingKept(fault))
         }
-        Err(BadBegun::Memory) => Err(NotKnown::Refused(RunFault::Memory)),
+        Err(BadBytes::Memory) => Err(NotKnown::Refused(RunFault::Memory)),
     }
 }
 

@@ -6,15 +6,15 @@ ghost use Rattle.std.specs.Option.{option_map};
 ghost use Rattle.hex.specs.Hex.{encode_lower};
 ghost use Rattle.splices_flat.specs.FileSet.{entries_of};
 ghost use Rattle.round_inputs.specs.Begun.{begun_head, begun_sizes, begun_piece, begun_file, begun_rescue, rescue_kept, begun_text_of};
-ghost use Rattle.round_inputs.specs.declared.begun.BadBegun.TheVariants.{Memory};
 
+use crate::fault::BadBytes;
 use crate::inputs::push_hex;
 use dag_reader::Text;
 use hex::FromHex;
 use itoa::Buffer;
 use memchr::memchr;
 use splices_flat::FileSet;
-use std::alloc::{AllocError, AllocFailed, Global};
+use std::alloc::{AllocError, Global};
 
 /// What a round was begun with.
 #[derive(Drop)]
@@ -25,31 +25,6 @@ pub struct Begun {
     pub files: FileSet,
     /// The path and the bytes of the rescue file that the round read, if it read one.
     pub rescue: Option<(Text, Vec<u8>)>,
-}
-
-/// Why bytes don't keep what a round was begun with.
-#[derive(Clone, Copy, Debug, PartialEq, Eq)]
-pub enum BadBegun {
-    /// They are not spelled as `begun_text` spells it.
-    NotSpelled,
-    /// Memory was refused.
-    Memory,
-}
-
-impl From<AllocError> for BadBegun {
-    ghost from_gives = { λ _ fault. fault ≡ Memory };
-
-    fn from(_e: AllocError) -> BadBegun {
-        BadBegun::Memory
-    }
-}
-
-impl<T: Drop> From<AllocFailed<T>> for BadBegun {
-    ghost from_gives = { λ _ fault. fault ≡ Memory };
-
-    fn from(_e: AllocFailed<T>) -> BadBegun {
-        BadBegun::Memory
-    }
 }
 
 /// Adds a digest, and a line feed.
@@ -235,12 +210,12 @@ fn digest_in(line: &[u8]) -> Option<[u8; 32]> {
 }
 
 /// What bytes keep, however they are spelled.
-fn pieces_in(alloc: Global, bytes: &[u8]) -> Result<Begun, BadBegun> {
+fn pieces_in(alloc: Global, bytes: &[u8]) -> Result<Begun, BadBytes> {
     let Some((first, mut rest)) = line_in(bytes) else {
-        return Err(BadBegun::NotSpelled);
+        return Err(BadBytes::NotSpelled);
     };
     let Some(digest) = digest_in(first) else {
-        return Err(BadBegun::NotSpelled);
+        return Err(BadBytes::NotSpelled);
     };
     let mut begun = Begun {
         digest,
@@ -250,7 +225,7 @@ fn pieces_in(alloc: Global, bytes: &[u8]) -> Result<Begun, BadBegun> {
     let end: &[u8] = b"end\n";
     while rest != end {
         let Some((piece, behind)) = piece_in(rest) else {
-            return Err(BadBegun::NotSpelled);
+            return Err(BadBytes::NotSpelled);
         };
         begun.add(alloc, piece)?;
         rest = behind;
@@ -262,7 +237,7 @@ fn pieces_in(alloc: Global, bytes: &[u8]) -> Result<Begun, BadBegun> {
 ///
 /// # Errors
 /// `NotSpelled` where `begun_text` spells nothing so, and `Memory`.
-pub fn begun_in(alloc: Global, bytes: &[u8]) -> Result<Begun, BadBegun>
+pub fn begun_in(alloc: Global, bytes: &[u8]) -> Result<Begun, BadBytes>
     // What is read is spelled by just these bytes.
     ensures { IfOk result (λ begun. begun_text_of begun.digest (entries_of begun.files)
         (rescue_kept begun.rescue) ≡ bytes.now) }
@@ -270,7 +245,7 @@ pub fn begun_in(alloc: Global, bytes: &[u8]) -> Result<Begun, BadBegun>
     let begun = pieces_in(alloc, bytes)?;
     let text = begun_text(alloc, &begun.digest, &begun.files, begun.rescue_file())?;
     if text.as_slice() != bytes {
-        return Err(BadBegun::NotSpelled);
+        return Err(BadBytes::NotSpelled);
     }
     Ok(begun)
 }

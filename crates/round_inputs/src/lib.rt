@@ -4,14 +4,14 @@
 
 mod as_begun;
 mod begun;
-#[cfg(test)]
-mod checks;
+mod fault;
 mod inputs;
 mod listing;
 mod reading;
 
 pub use as_begun::{AsBegun, ByFiles, seen_by};
-pub use begun::{BadBegun, Begun, begun_in, begun_text};
+pub use begun::{Begun, begun_in, begun_text};
+pub use fault::BadBytes;
 pub use inputs::{Inputs, Listed, inputs_of, inputs_text, list_file};
 pub use listing::{MOST_OF_BEGUN, begun_path, inputs_path, write_begun, write_inputs};
-pub use reading::{BadInputs, inputs_in};
+pub use reading::inputs_in;

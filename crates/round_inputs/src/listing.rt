@@ -4,7 +4,7 @@ ghost use Rattle.std.specs.Prelude.{◌≡◌, ◌∷◌, ◌++◌, [], map, cod
 ghost use Rattle.std.specs.Option.{option_map};
 ghost use Rattle.splices_flat.specs.FileSet.{entries_of};
 ghost use Rattle.dag_main_check.specs.declared.fault.RunFault.TheVariants.{Memory};
-ghost use Rattle.dag_main_files.specs.Beside.{IsFileFault};
+ghost use Rattle.dag_main_files.specs.Beside.{IsRefusalOf};
 ghost use Rattle.dag_main_files.specs.declared.changes.Change.TheVariants.{Written};
 ghost use Rattle.round_inputs.specs.Begun.{begun_name_of};
 ghost use Rattle.round_inputs.specs.Inputs.{listed_of, rescue_entry, inputs_name_of};
@@ -72,7 +72,7 @@ fn write_drafted<R: Files<File = File> + AllocGlobal + Copy + Drop>(
     text: &Vec<u8>,
     changes: &mut Changes,
 ) -> Result<(), RunFault>
-    ensures refused { IfErr result IsFileFault }
+    ensures refused { IfErr result (IsRefusalOf path.now) }
     ensures changes { OnOk result (changes.new ≡ changes.old ++ (path.now, Written text.now.items) ∷ []) }
     ensures no_change { OnErr result (changes.new ≡ changes.old) }
 {
@@ -124,7 +124,7 @@ pub fn write_inputs<R: Files<File = File> + AllocGlobal + Copy + Drop>(
     rescue: Option<&[u8]>,
     changes: &mut Changes,
 ) -> Result<(), RunFault>
-    ensures refused { IfErr result IsFileFault }
+    ensures refused { IfErr result (IsRefusalOf (inputs_name_of place.now.top.now)) }
     ensures changes { OnOk result (changes.new
         ≡ changes.old ++ keeps_sums place.now.top.now digest.now (entries_of files.now) used (option_map (λ b. b.now) rescue.entry)) }
     ensures no_change { OnErr result (changes.new ≡ changes.old) }
@@ -208,7 +208,7 @@ pub fn write_begun<R: Files<File = File> + AllocGlobal + Copy + Drop>(
     rescue: Option<&[u8]>,
     changes: &mut Changes,
 ) -> Result<bool, RunFault>
-    ensures refused { IfErr result IsFileFault }
+    ensures refused { IfErr result (IsRefusalOf (begun_name_of place.now.top.now)) }
     ensures changes { IfOk result (λ is_kept. changes.new
         ≡ changes.old ++ keeps_files is_kept place.now.top.now digest.now (entries_of files.now) used (option_map (λ b. b.now) rescue.entry)) }
     ensures no_change { OnErr result (changes.new ≡ changes.old) }

@@ -4,37 +4,12 @@ ghost use Rattle.std.specs.Prelude.{◌≡◌, IfOk, find};
 ghost use Rattle.std.specs.Option.{option_map};
 ghost use Rattle.std.specs.Str.{bytes_eq};
 ghost use Rattle.round_inputs.specs.Inputs.{inputs_text_of};
-ghost use Rattle.round_inputs.specs.declared.reading.BadInputs.TheVariants.{Memory};
 
+use crate::fault::BadBytes;
 use crate::inputs::{Inputs, Listed, inputs_text};
 use dag_reader::Text;
 use hex::FromHex;
-use std::alloc::{AllocError, AllocFailed, Global};
-
-/// Why bytes don't say what a round was begun with.
-#[derive(Clone, Copy, Debug, PartialEq, Eq)]
-pub enum BadInputs {
-    /// They are not spelled as `inputs_text` spells it.
-    NotSpelled,
-    /// Memory was refused.
-    Memory,
-}
-
-impl From<AllocError> for BadInputs {
-    ghost from_gives = { λ _ fault. fault ≡ Memory };
-
-    fn from(_e: AllocError) -> BadInputs {
-        BadInputs::Memory
-    }
-}
-
-impl<T: Drop> From<AllocFailed<T>> for BadInputs {
-    ghost from_gives = { λ _ fault. fault ≡ Memory };
-
-    fn from(_e: AllocFailed<T>) -> BadInputs {
-        BadInputs::Memory
-    }
-}
+use std::alloc::{AllocError, Global};
 
 /// A sum or a digest, if these are its digits.
 fn sum_in(digits: &str) -> Option<[u8; 32]> {
@@ -76,16 +51,16 @@ fn path_in(alloc: Global, written: &str, has_mark: bool) -> Result<Text, AllocEr
 }
 
 /// The file of a line.
-fn file_in(alloc: Global, line: &str) -> Result<Listed, BadInputs> {
+fn file_in(alloc: Global, line: &str) -> Result<Listed, BadBytes> {
     let (has_mark, rest) = match line.strip_prefix('\\') {
         Some(rest) => (true, rest),
         None => (false, line),
     };
     let Some((digits, written)) = rest.split_once("  ") else {
-        return Err(BadInputs::NotSpelled);
+        return Err(BadBytes::NotSpelled);
     };
     let Some(sum) = sum_in(digits) else {
-        return Err(BadInputs::NotSpelled);
+        return Err(BadBytes::NotSpelled);
     };
     Ok(Listed {
         sum,
@@ -99,7 +74,7 @@ fn digest_in(line: &str) -> Option<[u8; 32]> {
 }
 
 /// The files of lines.
-fn files_in(alloc: Global, text: &str) -> Result<Vec<Listed>, BadInputs> {
+fn files_in(alloc: Global, text: &str) -> Result<Vec<Listed>, BadBytes> {
     let mut files = Vec::new(alloc);
     for line in text.lines() {
         files.push(file_in(alloc, line)?)?;
@@ -108,15 +83,15 @@ fn files_in(alloc: Global, text: &str) -> Result<Vec<Listed>, BadInputs> {
 }
 
 /// What lines say, however they are spelled.
-fn lines_in(alloc: Global, bytes: &[u8]) -> Result<Inputs, BadInputs> {
+fn lines_in(alloc: Global, bytes: &[u8]) -> Result<Inputs, BadBytes> {
     let Ok(text) = str::from_utf8(bytes) else {
-        return Err(BadInputs::NotSpelled);
+        return Err(BadBytes::NotSpelled);
     };
     let Some((first, rest)) = text.split_once('\n') else {
-        return Err(BadInputs::NotSpelled);
+        return Err(BadBytes::NotSpelled);
     };
     let Some(digest) = digest_in(first) else {
-        return Err(BadInputs::NotSpelled);
+        return Err(BadBytes::NotSpelled);
     };
     Ok(Inputs {
         digest,
@@ -128,14 +103,14 @@ fn lines_in(alloc: Global, bytes: &[u8]) -> Result<Inputs, BadInputs> {
 ///
 /// # Errors
 /// `NotSpelled` where `inputs_text` spells nothing so, and `Memory`.
-pub fn inputs_in(alloc: Global, bytes: &[u8]) -> Result<Inputs, BadInputs>
+pub fn inputs_in(alloc: Global, bytes: &[u8]) -> Result<Inputs, BadBytes>
     // What is read is spelled by just these bytes.
     ensures { IfOk result (λ inputs. inputs_text_of inputs.digest inputs.files.items ≡ bytes.now) }
 {
     let inputs = lines_in(alloc, bytes)?;
     let text = inputs_text(alloc, &inputs)?;
     if text.as_slice() != bytes {
-        return Err(BadInputs::NotSpelled);
+        return Err(BadBytes::NotSpelled);
     }
     Ok(inputs)
 }

@@ -1,7 +1,8 @@
 //! Processes of a round that an earlier manager left running.
 //!
 //! Such a process is known by what only it can have: the identifier of the round in its environment, which its manager gave it.
-//! A child whose environment says nothing is known by what its manager noted of it, and is never killed.
+//! A child whose environment says nothing, or has the identifier of a round that nobody knows, is known by what its manager noted of
+//! it, and is never killed.
 
 use crate::children::{NotedManager, is_word, last_manager};
 use crate::events::push_time;
@@ -11,6 +12,7 @@ use crate::processes::{
     Program, Standing, all_numbers, asked_of, boot_of, environment_of, has_own_program,
     is_wordless, own_number, standing_of, user_of,
 };
+use crate::rounds::named_rounds;
 use child_watcher::{is_of_round, run_shell, value_of};
 use dag_main_args::OrphanRule;
 use event_journal::require_regular;
@@ -63,7 +65,7 @@ impl<T: Drop> From<AllocFailed<T>> for OrphanFault {
 enum Sign {
     /// The identifier of the round is in its environment.
     Identifier,
-    /// Its manager noted it, and its environment says nothing.
+    /// Its manager noted it, and its environment doesn't tell whose it is.
     Note,
 }
 
@@ -93,6 +95,8 @@ impl Orphan {
 struct Sought<'a> {
     /// The identifiers of the rounds.
     rounds: &'a [String],
+    /// The identifiers that are known, those of other folders among them.
+    named: &'a [String],
     /// Whose processes count.
     user: Option<u32>,
     /// The sessions in which the last managers worked; none where they are not known.
@@ -105,6 +109,8 @@ struct Sought<'a> {
 #[derive(Drop)]
 pub struct Orphans {
     rounds: Vec<String>,
+    /// the identifiers that their file names, of whatever folder
+    named: Vec<String>,
     /// the sessions of the last managers: one that they started is in theirs until it has come to its program
     sessions: Vec<u32>,
     /// the children of the last manager that it noted, and that ran when they were looked for first
@@ -174,6 +180,16 @@ fn is_of_any(environment: &[u8], rounds: &[String]) -> bool {
             .iter()
             .any(|round| is_of_round(round.as_str(), setting))
     })
+}
+
+/// Whether a setting is the identifier of a round, and none of these. An empty one is none.
+fn is_unknown_round(setting: &[u8], named: &[String]) -> bool {
+    match value_of(setting, "DAGRUN_ROUND=") {
+        Some(value) if !value.is_empty() => named
+            .iter()
+            .all(|round| !is_of_round(round.as_str(), setting)),
+        _ => false,
+    }
 }
 
 /// The value of a variable of an environment, where it can stand in a line of a log; else a dash.
@@ -292,14 +308,23 @@ fn has_settings(environment: &[u8]) -> bool {
         .any(|setting| setting.contains(&b'='))
 }
 
-/// The process of this number and of this environment where it is one of these rounds, runs, and is this user's.
+/// Whether an environment without the identifier of a round that is looked for tells that its process is none of it: it has settings,
+/// and no identifier of a round that nobody knows, as it has where the file of the identifiers was lost.
+fn is_telling(environment: &[u8], named: &[String]) -> bool {
+    has_settings(environment)
+        && !environment
+            .split(|byte| *byte == 0)
+            .any(|setting| is_unknown_round(setting, named))
+}
+
+/// The process of this number and of this environment, which has the identifier of a round, where it runs and is this user's.
 fn orphan_by_identifier<R: Files + AllocGlobal>(
     rt: &R,
     process: u32,
     environment: &[u8],
     sought: Sought<'_>,
 ) -> Result<Option<Orphan>, OrphanFault> {
-    if !is_of_any(environment, sought.rounds) || user_of(rt, process)? != sought.user {
+    if user_of(rt, process)? != sought.user {
         return Ok(None);
     }
     let key = key_in(rt.alloc(), environment)?;
@@ -313,6 +338,11 @@ fn orphan_by_identifier<R: Files + AllocGlobal>(
         })),
         _ => Ok(None),
     }
+}
+
+/// Whether a child of this number was noted.
+fn is_noted(process: u32, noted: &[Noted]) -> bool {
+    noted.iter().any(|child| child.process == process)
 }
 
 /// The process of this number where it is a child that was noted, and runs.
@@ -336,17 +366,22 @@ fn orphan_by_note<R: Files + AllocGlobal>(
     }
 }
 
-/// The process of this number where it is one of these rounds, and runs: by its environment, or where that says nothing, since it
-/// can't be read, is empty or was overwritten, by what was noted.
+/// The process of this number where it is one of these rounds, and runs: by its environment, or where that doesn't tell, by what was
+/// noted. It doesn't where it can't be read, is empty or was overwritten, or has the identifier of a round that nobody knows. Where no
+/// identifier is known, nobody is asked but those that were noted.
 fn orphan_at<R: Files + Clock + AllocGlobal + Clone + Drop>(
     rt: &R,
     process: u32,
     sought: Sought<'_>,
 ) -> Result<Option<Orphan>, OrphanFault> {
+    if sought.rounds.is_empty() && !is_noted(process, sought.noted) {
+        return Ok(None);
+    }
     match environment_at(rt, process, sought.sessions)? {
-        Some(environment) if has_settings(&environment) => {
+        Some(environment) if is_of_any(&environment, sought.rounds) => {
             orphan_by_identifier(rt, process, &environment, sought)
         }
+        Some(environment) if is_telling(&environment, sought.named) => Ok(None),
         _ => orphan_by_note(rt, process, sought.noted),
     }
 }
@@ -470,6 +505,7 @@ impl Orphans {
     fn sought<R: Files + AllocGlobal>(&self, rt: &R) -> Result<Sought<'_>, OrphanFault> {
         Ok(Sought {
             rounds: &self.rounds,
+            named: &self.named,
             user: user_of(rt, own_number(rt))?,
             sessions: &self.sessions,
             noted: &self.noted,
@@ -482,6 +518,24 @@ impl Orphans {
     /// Lack of memory.
     pub fn notes<R: Files + AllocGlobal>(&self, rt: &R) -> Result<String, AllocError> {
         noted_lines(rt, &self.noted)
+    }
+
+    /// Whether the file of the identifiers came with a copy of the folder: it names rounds, and each of them is of another folder.
+    fn is_copied(&self) -> bool {
+        self.rounds.is_empty() && !self.named.is_empty()
+    }
+
+    /// Finds them, for the first time. Without an identifier and without a note there is nothing to look for.
+    fn find<R: Files + Clock + AllocGlobal + Clone + Drop>(
+        &mut self,
+        rt: &R,
+    ) -> Result<(), OrphanFault> {
+        if self.rounds.is_empty() && self.noted.is_empty() {
+            return Ok(());
+        }
+        self.spared = own_line(rt)?;
+        self.found = self.look(rt)?;
+        Ok(())
     }
 
     /// Looks at all processes: those of the rounds that run now. Where none is seen it looks again, since one may have started
@@ -657,8 +711,10 @@ fn sessions_of(
 }
 
 /// The processes of the rounds of these identifiers that an earlier manager left: those that have one in their environment, and
-/// children that it noted whose environment says nothing. The first path is that of the file of the managers' processes, the second
-/// one that of the file of the identifiers: each names a manager last.
+/// children that it noted whose environment doesn't tell whose they are. No environment with an identifier tells it where the file of the
+/// identifiers is missing or was cut short. There are none where that file came with a copy of the folder, as that of the processes did.
+/// The first path is that of the file of the managers' processes, the second one that of the file of the identifiers: each names a
+/// manager last.
 ///
 /// # Errors
 /// `NotRead` where the first file is there and the system refuses to read it, or it is no regular one; `NotKnown` the same of the
@@ -671,11 +727,12 @@ pub fn orphans_of<R: Files<File = File> + Clock + AllocGlobal + Clone + Drop>(
 ) -> Result<Orphans, OrphanFault> {
     let noted = text_at(rt, children, OrphanFault::NotRead)?;
     let kept = text_at(rt, round, OrphanFault::NotKnown)?;
-    let managers = [&noted, &kept].map(|text| last_manager(
-        text.as_ref().map_or("", |text| text.as_str()),
-    ));
+    let noted = noted.as_ref().map_or("", |text| text.as_str());
+    let kept = kept.as_ref().map_or("", |text| text.as_str());
+    let managers = [noted, kept].map(|text| last_manager(text));
     let mut orphans = Orphans {
         rounds,
+        named: named_rounds(rt.alloc(), kept)?,
         sessions: sessions_of(rt.alloc(), &managers)?,
         noted: Vec::new(rt.alloc()),
         spared: Vec::new(rt.alloc()),
@@ -685,14 +742,13 @@ pub fn orphans_of<R: Files<File = File> + Clock + AllocGlobal + Clone + Drop>(
         .iter()
         .flatten()
         .any(|manager| is_alive(rt, manager));
-    if orphans.rounds.is_empty() {
+    if orphans.is_copied() {
         return Ok(orphans);
     }
     if runs {
         return Err(OrphanFault::StillWorks);
     }
-    orphans.spared = own_line(rt)?;
-    orphans.noted = noted_that_run(rt, noted.as_ref().map_or("", |text| text.as_str()))?;
-    orphans.found = orphans.look(rt)?;
+    orphans.noted = noted_that_run(rt, noted)?;
+    orphans.find(rt)?;
     Ok(orphans)
 }

@@ -4,7 +4,7 @@ use crate::children::{last_manager, manager_line};
 use crate::orphans::{OrphanFault, text_at};
 use crate::processes::{boot_of, own_number};
 use event_journal::{PERMISSIONS, require_regular};
-use std::alloc::AllocError;
+use std::alloc::{AllocError, Global};
 use std::fs::{self, File, OpenOptions};
 use std::io::{self, Write};
 use std::os::unix::fs::{MetadataExt, OpenOptionsExt};
@@ -97,6 +97,20 @@ pub fn kept_rounds<R: Files + AllocGlobal>(
                 rounds.push(String::from_str(rt.alloc(), round)?)?;
             }
             _ => {}
+        }
+    }
+    Ok(rounds)
+}
+
+/// The identifiers that these lines name, of whatever folder. A line that is cut short names none: only its end says where its folder is.
+pub(crate) fn named_rounds(alloc: Global, text: &str) -> Result<Vec<String>, AllocError> {
+    let mut rounds = Vec::new(alloc);
+    let Some((whole, _cut)) = text.rsplit_once('\n') else {
+        return Ok(rounds);
+    };
+    for line in whole.lines() {
+        if let Some((round, _seat)) = round_in(line) {
+            rounds.push(String::from_str(alloc, round)?)?;
         }
     }
     Ok(rounds)

@@ -489,6 +489,15 @@ impl<'a, R: Screen + Processes + Files<File = File> + Clock + AllocGlobal + Copy
         }
     }
 
+    /// Tells that the round was called in another folder before, by which its relative paths were meant.
+    fn tell_elsewhere(&mut self, folder: &str) -> Result<(), AllocError> {
+        let mut line = String::from_str(self.rt.alloc(), "the round ran in ")?;
+        push_shown(&mut line, folder)?;
+        line.push_str(" before: its relative paths are seen from this folder now\n")?;
+        self.write(line.as_str());
+        Ok(())
+    }
+
     /// Tells which of the jobs that can start at once are certain to fail.
     fn tell_doomed(&mut self) -> Result<(), AllocError> {
         let alloc = self.rt.alloc();
@@ -576,10 +585,14 @@ impl<
         }
     }
 
-    /// Tells how many nodes are done in a round that goes on; then which of the jobs that can start at once are certain to fail.
-    pub fn goes_on(&mut self) {
+    /// Tells how many nodes are done in a round that goes on, and in which folder it was called before, if that is another one; then which of
+    /// the jobs that can start at once are certain to fail.
+    pub fn goes_on(&mut self, elsewhere: Option<&str>) {
         if let Some(progress) = &mut self.progress {
             let _ = progress.tell_goes_on();
+            if let Some(folder) = elsewhere {
+                let _ = progress.tell_elsewhere(folder);
+            }
             let _ = progress.tell_doomed();
         }
     }

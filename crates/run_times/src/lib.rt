@@ -4,8 +4,6 @@
 
 mod bars;
 mod canvas;
-#[cfg(test)]
-mod checks;
 mod classes;
 mod critical;
 mod form;

@@ -5,4 +5,4 @@ pub mod Results
 pub mod Refusals
 pub mod Sights
 pub mod NameLists
-mod SalvageChanges
+pub mod SalvageChanges

@@ -14,7 +14,7 @@ use Rattle.run_plan.specs.declared.fault.PlanFault.{PlanFault}
 use Rattle.run_plan.specs.declared.fault.PlanFault.TheVariants as plans
 use Rattle.event_journal_log.specs.declared.fault.JournalFault.{JournalFault}
 use Rattle.event_journal_log.specs.declared.fault.JournalFault.TheVariants as journals
-use Rattle.event_journal_log.specs.declared.journal.Peek.{Peek}
+use Rattle.event_journal_log.specs.declared.decoded.Peek.{Peek}
 use Rattle.event_journal_log.specs.Groups.{IsSlotAt}
 use Rattle.event_journal_log.specs.Image.{Found, replay_of, groups_in, header_in, is_headed}
 use Rattle.event_journal_log.specs.Peeks.{ReadsPeek}

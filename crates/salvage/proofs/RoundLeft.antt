@@ -1,7 +1,7 @@
 -- Rounds that may be salvaged, by what a header says.
 use Rattle.std.proofs.Common.{◌≡◌, ◌≤◌, ◌<◌, ℕ, Bool, List, false, Some, length, arith, sym, ap, ◌∙◌}
 use Rattle.std.specs.Prelude.{slice_range}
-use Rattle.event_journal_log.specs.declared.journal.Peek.{Peek}
+use Rattle.event_journal_log.specs.declared.decoded.Peek.{Peek}
 use Rattle.event_journal_log.specs.Image.{Header, replay_of, IsRescueNumber}
 use Rattle.event_journal_log.specs.Peeks.{ReadsPeek}
 use Rattle.event_journal_log.proofs.Replays.{journals}

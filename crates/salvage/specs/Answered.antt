@@ -122,8 +122,8 @@ pub record IsSalvageOf (too : Bool) (path text warnings : List ℕ) (status : �
   pub text_is : text ≡ report_line done total (rescue_name_of path next) ++ changes
   pub status_is : status ≡ 0
 
--- the same where these files are held: all of it is said by them
-pub record IsSalvageFrom (too : Bool) (holds : Files) (path text warnings : List ℕ) (status : ℕ) : Type 0 where
+-- the same where these files are held and these paths are there: all of it is said by them
+pub record IsSalvageFrom (too : Bool) (holds : Files) (there : List ℕ → Bool) (path text warnings : List ℕ) (status : ℕ) : Type 0 where
   pub of_round : IsSalvageOf too path text warnings status
   pub held : IsHeldMade too holds path of_round.next of_round.listed of_round.rescue_text of_round.done of_round.total warnings of_round.made
-  pub changes_held : AreChanges (IsChangeFrom holds) of_round.listed of_round.changes
+  pub changes_held : AreChanges (IsChangeFrom holds there) of_round.listed of_round.changes

@@ -6,7 +6,6 @@ use Rattle.splices_flat.specs.declared.file_set.FileSet.{FileSet}
 use Rattle.rescue_file.specs.Numbered.{rescue_name_of}
 use Rattle.dag_main_check.specs.declared.fault.RunFault.{RunFault}
 use Rattle.dag_main_check.specs.declared.fault.RunFault.TheVariants.{Memory}
-use Rattle.dag_main_files.specs.Beside.{IsRefusalOf}
 use Rattle.salvage.specs.Round.{sum_in, IsSame}
 use Rattle.salvage.specs.Sight.{Sight}
 use Rattle.round_inputs.specs.declared.inputs.Listed.{Listed}
@@ -36,7 +35,7 @@ pub data IsOtherRescue (sight : Sight) (listed : List Listed) (top : List ℕ) (
       IsOtherRescue sight listed top used (Changed (rescue_name_of top used))
   rescue_changed : (bytes : List ℕ) (fault : SalvageFault) → used ≢ 0 → sight.has (rescue_name_of top used) bytes →
       IsOtherFile listed (rescue_name_of top used, bytes) fault → IsOtherRescue sight listed top used fault
-  rescue_refused : (fault : RunFault) → IsRefusalOf (rescue_name_of top used) fault → IsOtherRescue sight listed top used (Refused fault)
+  rescue_refused : (fault : RunFault) → sight.refuses (rescue_name_of top used) fault → IsOtherRescue sight listed top used (Refused fault)
 
 -- Why a round is not as it was, the first cause first: a DAG file is not, or else the rescue file that it read.
 pub data IsOther (sight : Sight) (listed : List Listed) (top : List ℕ) (used : ℕ) (files : FileSet) : SalvageFault → Type 0 where

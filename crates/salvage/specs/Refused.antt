@@ -49,7 +49,7 @@ pub data IsNotLeft (too : Bool) (path journal : List ℕ) : SalvageFault → Typ
 -- Why there is no round of the DAG file of this path that may be salvaged: it has no journal; the system refuses it; or its bytes tell of none.
 pub data IsNoRound (too : Bool) (sight : Sight) (top : List ℕ) : SalvageFault → Type 0 where
   has_no_journal : sight.lacks (journal_name_of top) → IsNoRound too sight top (NoJournal (journal_name_of top))
-  journal_refused : (fault : RunFault) → IsRefusalOf (journal_name_of top) fault → IsNoRound too sight top (Refused fault)
+  journal_refused : (fault : RunFault) → sight.refuses (journal_name_of top) fault → IsNoRound too sight top (Refused fault)
   not_left : (journal : List ℕ) (fault : SalvageFault) → sight.has (journal_name_of top) journal →
       IsNotLeft too (journal_name_of top) journal fault → IsNoRound too sight top fault
 
@@ -57,7 +57,7 @@ pub data IsNoRound (too : Bool) (sight : Sight) (top : List ℕ) : SalvageFault 
 -- as that file is; or it says it of another digest.
 pub data IsNoInputs (sight : Sight) (top digest : List ℕ) : SalvageFault → Type 0 where
   has_no_inputs : sight.lacks (inputs_name_of top) → IsNoInputs sight top digest (NoInputs (inputs_name_of top))
-  inputs_refused : (fault : RunFault) → IsRefusalOf (inputs_name_of top) fault → IsNoInputs sight top digest (Refused fault)
+  inputs_refused : (fault : RunFault) → sight.refuses (inputs_name_of top) fault → IsNoInputs sight top digest (Refused fault)
   not_spelled : (bytes : List ℕ) → sight.has (inputs_name_of top) bytes → IsNoInputs sight top digest (BadInputs (inputs_name_of top))
   of_another_round : (other : List ℕ) (listed : List Listed) → sight.has (inputs_name_of top) (inputs_text_of other listed) → other ≢ digest →
       IsNoInputs sight top digest (OtherRound (inputs_name_of top))
@@ -93,7 +93,7 @@ pub data IsUnmade (always_post : Bool) (files : Files) (path : List ℕ) (used :
 -- of a run of the plan of the files that are kept.
 pub data IsNotCarried (sight : Sight) (always_post : Bool) (files : Files) (path digest journal : List ℕ) (other : SalvageFault) : SalvageFault → Type 0 where
   not_kept : IsNotCarried sight always_post files path digest journal other other
-  kept_refused : (fault : RunFault) → IsRefusalOf (begun_name_of path) fault → IsNotCarried sight always_post files path digest journal other (Refused fault)
+  kept_refused : (fault : RunFault) → sight.refuses (begun_name_of path) fault → IsNotCarried sight always_post files path digest journal other (Refused fault)
   not_graphed : (fault : RunFault) → IsGraphFault files path fault → IsNotCarried sight always_post files path digest journal other (Refused fault)
   not_replayed : (begun : List ℕ) (old : Plan) (fault : RunFault) → sight.has (begun_name_of path) begun → IsBegunPlan always_post path digest begun old →
       IsUnsalvaged old journal fault → IsNotCarried sight always_post files path digest journal other (Refused fault)
@@ -115,7 +115,7 @@ pub data IsCutShortFault (sight : Sight) (top journal digest : List ℕ) (used :
       All (IsSame listed) (entries_of files) → IsRescueSeen sight top used rescue → IsSameRescue listed top used rescue →
       IsBarePlan always_post (bytes_of files) top rescue plan → IsUnsalvaged plan journal fault → IsCutShortFault sight top journal digest used always_post (Refused fault)
   keeping_refused : (listed : List Listed) (files : FileSet) (other : SalvageFault) (fault : RunFault) → IsListSeen sight top digest listed files →
-      IsOther sight listed top used files other → IsRefusalOf (begun_name_of top) fault → IsCutShortFault sight top journal digest used always_post (Refused fault)
+      IsOther sight listed top used files other → sight.refuses (begun_name_of top) fault → IsCutShortFault sight top journal digest used always_post (Refused fault)
   no_new_graph : (listed : List Listed) (files : FileSet) (other : SalvageFault) (fault : RunFault) → IsListSeen sight top digest listed files →
       IsOther sight listed top used files other → IsGraphFault (bytes_of files) top fault → IsCutShortFault sight top journal digest used always_post (Refused fault)
   not_of_begun : (listed : List Listed) (files : FileSet) (other : SalvageFault) (begun : List ℕ) (old : Plan) (fault : RunFault) →
@@ -148,5 +148,6 @@ pub data IsSalvageFault (too : Bool) (sight : Sight) (top : List ℕ) : SalvageF
   no_standard_input : (fault : RunFault) → IsInputFault top fault → IsSalvageFault too sight top (Refused fault)
   rescue_not_written : (ended : Bool) (journal digest : List ℕ) (used next : ℕ) (always_post : Bool) (fault : RunFault) → sight.has (journal_name_of top) journal →
       IsRoundLeft too ended journal digest used next always_post → IsRefusalOf (rescue_name_of top next) fault → IsSalvageFault too sight top (Refused fault)
-  journal_not_put_away : (fault : RunFault) → IsRefusalOf (journal_name_of top) fault → IsSalvageFault too sight top (Refused fault)
+  journal_not_put_away : (ended : Bool) (journal digest : List ℕ) (used next : ℕ) (always_post : Bool) (fault : RunFault) → sight.has (journal_name_of top) journal →
+      IsRoundLeft too ended journal digest used next always_post → IsRefusalOf (journal_name_of top) fault → IsSalvageFault too sight top (Refused fault)
   making_had_no_memory : IsSalvageFault too sight top (Refused Memory)

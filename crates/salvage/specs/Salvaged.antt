@@ -1,5 +1,5 @@
 -- The rescue file of a round that was cut short.
-use Rattle.std.specs.Prelude.{◌≡◌, ◌⊎◌, ℕ, List, [], ◌∷◌, ◌++◌, Bool, Option, Some, None, Result, Ok, Err, All, IsTrue, codes, decimal, if◌then◌else◌}
+use Rattle.std.specs.Prelude.{◌≡◌, ℕ, List, [], ◌∷◌, ◌++◌, Bool, true, false, Option, Some, None, Result, Ok, Err, All, IsTrue, codes, decimal, if◌then◌else◌}
 use Rattle.std.specs.Str.{bytes_eq}
 use Rattle.sha2.specs.Sha256.{sha256}
 use Rattle.std.specs.List.{count_by}
@@ -48,14 +48,15 @@ change_line path None = []
 change_line path (Some Other) = codes "changed since the round began: " ++ (path ++ codes "\n")
 change_line path (Some Missing) = codes "missing since the round began: " ++ (path ++ codes "\n")
 
--- how a file differs from these bytes at its path, if it does: none are there, or they have another sum
-abbrev pub change_from : List ℕ → Option (List ℕ) → Option Difference
-change_from sum None = Some Missing
-change_from sum (Some bytes) = if bytes_eq (sha256 bytes) sum then None else Some Other
+-- how a file differs from what can be read at its path, if it does: bytes with another sum; or none, where something is there or nothing is
+abbrev pub change_from : (sum : List ℕ) → (found : Option (List ℕ)) → (is_there : Bool) → Option Difference
+change_from sum (Some bytes) is_there = if bytes_eq (sha256 bytes) sum then None else Some Other
+change_from sum None true = Some Other
+change_from sum None false = Some Missing
 
--- a file differs so from the one that is held at its path; or the system refuses that one
-abbrev pub IsChangeFrom : Files → Listed → Option Difference → Type 0
-IsChangeFrom holds file change = (change ≡ change_from file.sum (holds file.path)) ⊎ (change ≡ Some Other)
+-- a file differs so from the one that is held at its path, where these paths are there
+abbrev pub IsChangeFrom : Files → (there : List ℕ → Bool) → Listed → Option Difference → Type 0
+IsChangeFrom holds there file change = change ≡ change_from file.sum (holds file.path) (there file.path)
 
 -- the lines of files, each with a change for which this holds
 pub data AreChanges (IsOf : Listed → Option Difference → Type 0) : List Listed → List ℕ → Type 0 where

@@ -3,7 +3,7 @@
 ghost use Rattle.std.specs.Prelude.{◌≡◌, ◌↔◌, ℕ, List, IsTrue, Some, IfOk, IfErr, IfSome, string_bytes};
 ghost use Rattle.splices_flat.specs.FileSet.{bytes_of, entries_of};
 ghost use Rattle.dag_main_check.specs.declared.fault.RunFault.TheVariants.{Memory};
-ghost use Rattle.dag_main_files.specs.Beside.{IsRefusalOf};
+ghost use Rattle.dag_main_files.specs.Beside.{IsRefusalOf, IsRefusalHeld};
 ghost use Rattle.round_inputs.specs.Begun.{begun_name_of, begun_text_of, rescue_kept};
 ghost use Rattle.salvage.specs.Carried.{IsBegunPlan};
 ghost use Rattle.salvage.specs.Answered.{IsMadeOfChanged};
@@ -15,7 +15,7 @@ use crate::fault::SalvageFault;
 use crate::rounds::RoundLeft;
 use dag_main_check::{RunFault, graph_of, plan_with};
 use dag_main_files::Folder;
-use round_inputs::{BadBegun, Begun, begun_in, begun_path};
+use round_inputs::{BadBytes, Begun, begun_in, begun_path};
 use run_plan::Plan;
 use splices_flat::FileSet;
 use std::alloc::Global;
@@ -52,6 +52,7 @@ fn begun_with<F: Folder>(
     ensures held { F.honest folder.now → IfOk result (λ begun. IfSome begun (λ found.
         F.holds folder.now (begun_name_of top.now) ≡ Some (begun_text_of found.digest (entries_of found.files) (rescue_kept found.rescue)))) }
     ensures refused { IfErr result (IsRefusalOf (begun_name_of top.now)) }
+    ensures unheld { F.honest folder.now → IfErr result (IsRefusalHeld (F.holds folder.now) (begun_name_of top.now)) }
 {
     let name = begun_path(alloc, top)?;
     let Some(bytes) = folder.beside(alloc, name.as_str())? else {
@@ -59,8 +60,8 @@ fn begun_with<F: Folder>(
     };
     let begun = match begun_in(alloc, bytes.as_slice()) {
         Ok(begun) => begun,
-        Err(BadBegun::NotSpelled) => return Ok(None),
-        Err(BadBegun::Memory) => return Err(RunFault::Memory),
+        Err(BadBytes::NotSpelled) => return Ok(None),
+        Err(BadBytes::Memory) => return Err(RunFault::Memory),
     };
     if !is_digest(&begun.digest, digest) {
         return Ok(None);
@@ -83,6 +84,7 @@ fn old_plan<F: Folder>(
         × IsBegunPlan round.now.always_post top.now round.now.digest begun old
         × (F.honest folder.now → F.holds folder.now (begun_name_of top.now) ≡ Some begun))) }
     ensures refused { IfErr result (IsRefusalOf (begun_name_of top.now)) }
+    ensures unheld { F.honest folder.now → IfErr result (IsRefusalHeld (F.holds folder.now) (begun_name_of top.now)) }
 {
     let Some(begun) = begun_with(alloc, folder, top, &round.digest)? else {
         return Ok(None);

@@ -2,19 +2,19 @@
 
 ghost use Rattle.std.specs.Str.{bytes_eq};
 ghost use Rattle.sha2.specs.Sha256.{sha256};
-ghost use Rattle.std.specs.Prelude.{◌≡◌, ◌++◌, ◌≤◌, ℕ, List, Some, IfOk, IfErr, OnOk, OnErr, string_bytes, option_map};
+ghost use Rattle.std.specs.Prelude.{◌≡◌, ◌++◌, ◌≤◌, Some, IfOk, IfErr, OnOk, OnErr, string_bytes, option_map};
 ghost use Rattle.splices_flat.specs.FileSet.{bytes_of};
 ghost use Rattle.rescue_file.specs.Numbered.{IsFileNumber, rescue_name_of};
 ghost use Rattle.dag_main_check.specs.declared.fault.RunFault.TheVariants.{Memory};
 ghost use Rattle.dag_main_files.specs.Beside.{journal_name_of, IsRefusalOf};
-ghost use Rattle.dag_main_files.specs.Changes.{AreBegun, writes_rescue, under_lock};
+ghost use Rattle.dag_main_files.specs.Changes.{writes_rescue, under_lock};
 ghost use Rattle.dag_main_files.specs.Folder.{IsReadFrom};
 ghost use Rattle.round_inputs.specs.Inputs.{inputs_name_of, inputs_text_of};
 ghost use Rattle.salvage.specs.Round.{IsRoundLeft};
 ghost use Rattle.salvage.specs.Salvaged.{IsBarePlan, change_line, IsChangeFrom, any_change, AreChanges, report_line};
 ghost use Rattle.salvage.specs.Answered.{IsMadeOfSame, IsMadeOf, HasWrittenNone, IsHeldMade, IsSalvageOf, IsSalvageFrom};
 ghost use Rattle.salvage.specs.Refused.{IsBarePlanFault, IsUnmade, IsNotOwn, IsSalvageFault, old_journal_name_of};
-ghost use Rattle.salvage.specs.Changes.{writes_salvage, SalvagesInPart};
+ghost use Rattle.salvage.specs.Changes.{writes_salvage, IsRescueMadeIf, SalvagesInPart, LeavesSalvage};
 ghost use Rattle.salvage.specs.Sight.{held_files_if};
 
 use crate::changed::{Made, made_of_changed};
@@ -116,7 +116,7 @@ fn change_of<F: Folder>(
     folder: &F,
     file: &Listed,
 ) -> Result<Option<Difference>, RunFault>
-    ensures held { F.honest folder.now → IfOk result (IsChangeFrom (F.holds folder.now) file.now) }
+    ensures held { F.honest folder.now → IfOk result (IsChangeFrom (F.holds folder.now) (F.has folder.now) file.now) }
     ensures refused { IfErr result (λ fault. fault ≡ Memory) }
 {
     let path = file.path.as_str();
@@ -147,7 +147,7 @@ fn push_change(text: &mut String, path: &str, change: Option<Difference>) -> Res
 fn changes_since<F: Folder>(alloc: Global, folder: &F, inputs: &Inputs) -> Result<String, RunFault>
     ensures changes { IfOk result (λ text. AreChanges any_change inputs.now.files.items (string_bytes text)) }
     ensures held { F.honest folder.now → IfOk result (λ text.
-        AreChanges (IsChangeFrom (F.holds folder.now)) inputs.now.files.items (string_bytes text)) }
+        AreChanges (IsChangeFrom (F.holds folder.now) (F.has folder.now)) inputs.now.files.items (string_bytes text)) }
     ensures refused { IfErr result (λ fault. fault ≡ Memory) }
 {
     let mut text = String::new(alloc);
@@ -323,13 +323,14 @@ fn salvage_locked<R: Files<File = File> + AllocGlobal + Copy + Drop, F: Folder>(
 ) -> Result<Answer, SalvageFault>
     ensures salvaged { IfOk result (λ answer. IsSalvageOf too place.now.top.now
         (string_bytes answer.text) (string_bytes answer.warnings) answer.status) }
-    ensures held { F.honest folder.now → IfOk result (λ answer. IsSalvageFrom too (F.holds folder.now) place.now.top.now
+    ensures held { F.honest folder.now → IfOk result (λ answer. IsSalvageFrom too (F.holds folder.now) (F.has folder.now) place.now.top.now
         (string_bytes answer.text) (string_bytes answer.warnings) answer.status) }
     ensures refused { IfErr result (IsSalvageFault too (held_files_if (F.honest folder.now) (F.holds folder.now) (F.has folder.now) place.now.top.now) place.now.top.now) }
     ensures changes { IfOk result (λ answer. (is : IsSalvageOf too place.now.top.now (string_bytes answer.text) (string_bytes answer.warnings) answer.status)
         × (F.honest folder.now → IsHeldMade too (F.holds folder.now) place.now.top.now is.next is.listed is.rescue_text is.done is.total (string_bytes answer.warnings) is.made)
         × (changes.new ≡ changes.old ++ writes_salvage place.now.top.now is.next is.rescue_text)) }
-    ensures begun { OnErr result ((number : ℕ) × (text : List ℕ) × AreBegun (writes_salvage place.now.top.now number text) changes.old changes.new) }
+    ensures begun { IfErr result (λ fault. SalvagesInPart (IsRescueMadeIf (F.honest folder.now) too (F.holds folder.now) place.now.top.now) place.now.top.now fault
+        changes.old changes.new) }
 {
     let alloc = rt.alloc();
     let found = read_round(alloc, folder, place.top, too)?;
@@ -416,15 +417,16 @@ pub fn salvage_here<R: Files<File = File> + Clock + AllocGlobal + Copy + Drop, F
     ensures salvaged { IfOk result (λ answer. IsSalvageOf too place.now.top.now
         (string_bytes answer.text) (string_bytes answer.warnings) answer.status) }
     // It is that of the files that the folder holds.
-    ensures held { F.honest folder.now → IfOk result (λ answer. IsSalvageFrom too (F.holds folder.now) place.now.top.now
+    ensures held { F.honest folder.now → IfOk result (λ answer. IsSalvageFrom too (F.holds folder.now) (F.has folder.now) place.now.top.now
         (string_bytes answer.text) (string_bytes answer.warnings) answer.status) }
     ensures refused { IfErr result (IsSalvageFault too (held_files_if (F.honest folder.now) (F.holds folder.now) (F.has folder.now) place.now.top.now) place.now.top.now) }
     // What it changes: under the lock the rescue file that it reports of is written, and then the journal is put away.
     ensures changes { IfOk result (λ answer. (is : IsSalvageOf too place.now.top.now (string_bytes answer.text) (string_bytes answer.warnings) answer.status)
         × (F.honest folder.now → IsHeldMade too (F.holds folder.now) place.now.top.now is.next is.listed is.rescue_text is.done is.total (string_bytes answer.warnings) is.made)
         × (changes.new ≡ changes.old ++ under_lock place.now.top.now (writes_salvage place.now.top.now is.next is.rescue_text))) }
-    // Where it is refused, the first of these changes at most.
-    ensures begun { OnErr result (SalvagesInPart place.now.top.now changes.old changes.new) }
+    // Where it is refused, nothing is written; or the rescue file of the round is, and the system refuses to put the journal away.
+    ensures begun { IfErr result (λ fault. LeavesSalvage (IsRescueMadeIf (F.honest folder.now) too (F.holds folder.now) place.now.top.now) place.now.top.now fault
+        changes.old changes.new) }
 {
     let alloc = rt.alloc();
     let journal = journal_path(alloc, place.top)?;

@@ -16,7 +16,7 @@ use dag_main_check::RunFault;
 use dag_main_files::{Folder, LAST_NUMBER, journal_path, peek_in, rescue_path};
 use dag_reader::Text;
 use event_journal_log::Peek;
-use round_inputs::{BadInputs, Inputs, inputs_in, inputs_path};
+use round_inputs::{BadBytes, Inputs, inputs_in, inputs_path};
 use sha2::{Digest, Sha256};
 use splices_flat::FileSet;
 use std::alloc::Global;
@@ -160,8 +160,8 @@ pub(crate) fn inputs_with<F: Folder>(
     };
     let inputs = match inputs_in(alloc, bytes.as_slice()) {
         Ok(inputs) => inputs,
-        Err(BadInputs::NotSpelled) => return Err(SalvageFault::BadInputs(name)),
-        Err(BadInputs::Memory) => return Err(SalvageFault::Refused(RunFault::Memory)),
+        Err(BadBytes::NotSpelled) => return Err(SalvageFault::BadInputs(name)),
+        Err(BadBytes::Memory) => return Err(SalvageFault::Refused(RunFault::Memory)),
     };
     if !has_digest(&inputs, digest) {
         return Err(SalvageFault::OtherRound(name));

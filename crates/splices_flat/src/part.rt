@@ -42,6 +42,10 @@ impl Numbers {
         ensures ok { OnOk result (self.new ≡ self.old ++ number ∷ []) }
         ensures err { OnErr result (self.new ≡ self.old) }
     {
+        // Most sides of a line have one node, and a list that grows by itself begins with room for four.
+        if self.items.is_empty() {
+            self.items.reserve_exact(1)?;
+        }
         self.items.push(number)?;
         Ok(())
     }

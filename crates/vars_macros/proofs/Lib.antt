@@ -30,3 +30,4 @@ pub mod SpelledParts
 pub mod SpelledArguments
 pub mod Takes
 pub mod Splits
+mod PlainTexts

@@ -1,8 +1,8 @@
 //! The expansion of a text.
 
-ghost use Rattle.std.specs.Prelude.{true, false};
+ghost use Rattle.std.specs.Prelude.{◌≡◌, Bool, true, false, IsTrue, Ok};
 ghost use Rattle.std.specs.Str.{IsUtf8};
-ghost use Rattle.vars_macros.specs.Meaning.{scope_of};
+ghost use Rattle.vars_macros.specs.Meaning.{MacroScope, scope_of};
 ghost use Rattle.vars_macros.specs.Scopes.{scope_seen, IsTextScope};
 ghost use Rattle.vars_macros.specs.Expansion.{expansion};
 ghost use Rattle.vars_macros.specs.Answers.{Gives};
@@ -12,10 +12,11 @@ ghost use Rattle.vars_macros.specs.Pairs.{ArePairsOf, closer_of};
 use crate::fault::MacroFault;
 use crate::machine::Machine;
 use crate::macros::Macros;
-use crate::output::{Expanded, Output};
+use crate::output::{Expanded, LONGEST_TEXT, Output};
 use crate::pairs::Pairs;
 use crate::part::Part;
 use crate::scope::Scope;
+use dag_reader::Text;
 use itoa::Buffer;
 use std::alloc::Global;
 
@@ -74,11 +75,26 @@ fn expand_text(
 ) -> Result<Expanded, MacroFault>
     ensures { Gives expansion_of result (expansion (scope_of macros.now attempt) vars text.now) }
 {
+    if is_plain(text.as_bytes()) {
+        let text = Text::new(alloc, text)?;
+        return Ok(Expanded {
+            text,
+            whole_run: false,
+        });
+    }
     let mut launch = Buffer::new();
     let mut retry = Buffer::new();
     let scope = macros.scope(retry.format(attempt.retry), launch.format(attempt.launch));
     let pairs = Pairs::of(alloc, text.as_bytes())?;
     expand_in(alloc, text.as_bytes(), &pairs, vars, scope)
+}
+
+/// Whether a text stands for itself: it refers to nothing, and is not too long. Most are so.
+fn is_plain(text: &[u8]) -> bool
+    ensures { IsTrue result → (scope : MacroScope) (vars : Bool)
+        → expansion scope vars text.now ≡ Ok (record { text = text.now; whole_run = false }) }
+{
+    text.len() <= LONGEST_TEXT && !text.contains(&b'$')
 }
 
 fn expand_in<'a>(

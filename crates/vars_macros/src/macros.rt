@@ -8,13 +8,13 @@ ghost use Rattle.vars_macros.specs.declared.fault.MacroFault.TheVariants.{Memory
 
 use crate::assignment::{Assigned, Macro};
 use crate::fault::MacroFault;
-use crate::key::key_of;
+use crate::key::Key;
 use crate::meaning::last_assigned;
 use crate::naming::NamePlaces;
 use crate::numbering::Names;
 use crate::pairs::Pairs;
 use dag_reader::Text;
-use std::alloc::{AllocFailed, Global};
+use std::alloc::{AllocError, AllocFailed, Global};
 use std::marker::Model;
 
 /// What the names of a node stand for: the node's name, and its assignments in the order in which
@@ -99,7 +99,7 @@ impl Macros {
         let name = Text::new(alloc, name)?;
         let value = Text::new(alloc, value)?;
         let one = Macro { name, value, vars };
-        self.assigned.reserve(1)?;
+        make_room(&mut self.assigned)?;
         let text = one.value.as_str().as_bytes();
         let places = NamePlaces::of(alloc, text, &mut self.names)?;
         let number = self.names.give(key)?;
@@ -117,11 +117,27 @@ impl Macros {
         ensures last { IfOk result (λ found. option_copied found ≡ last_macro self.now.assigned name.now) }
         ensures fault { IfErr result (λ fault. fault ≡ Memory) }
     {
-        let key = key_of(alloc, &self.names, name)?;
+        let Some(number) = self.names.number_in_any_case(alloc, name)? else {
+            return Ok(None);
+        };
+        let key = Key::Numbered(number);
         match last_assigned(self.assigned.as_slice(), &self.names, &key) {
             Some(found) => Ok(Some(&found.one)),
             None => Ok(None),
         }
+    }
+}
+
+/// Makes room for one more assignment. Most submit files have one or two, and a list that grows by itself begins
+/// with room for four.
+fn make_room(all: &mut Vec<Assigned>) -> Result<(), AllocError>
+    ensures items { all.new.items ≡ all.old.items }
+    ensures room { OnOk result (vec_len all.new < vec_capacity all.new) }
+{
+    if all.is_empty() {
+        all.reserve_exact(1)
+    } else {
+        all.reserve(1)
     }
 }
 

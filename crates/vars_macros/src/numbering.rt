@@ -1,7 +1,8 @@
 //! Names and their numbers.
 
-ghost use Rattle.std.specs.Prelude.{◌≡◌, ◌<◌, ℕ, List, Some, None, IfOk, length, string_bytes};
+ghost use Rattle.std.specs.Prelude.{◌≡◌, ◌<◌, ℕ, List, Some, None, IfOk, IsTrue, length, string_bytes};
 ghost use Rattle.std.specs.HashMap.{get_by_text};
+ghost use Rattle.vars_macros.specs.Names.{lower};
 ghost use Rattle.vars_macros.specs.Numbering.{NumbersAreApart};
 
 use indexmap::IndexMap;
@@ -34,6 +35,22 @@ impl Names {
         ensures { result ≡ number_of_name self.now key.now }
     {
         self.numbers.get(key).copied()
+    }
+
+    /// The number of a name in any case of ASCII letters, if it has one.
+    pub(crate) fn number_in_any_case(
+        &self,
+        alloc: Global,
+        name: &str,
+    ) -> Result<Option<usize>, AllocError>
+        ensures { IfOk result (λ number. number ≡ number_of_name self.now (lower name.now)) }
+    {
+        // The names that are read for each job are in lower case, and need no copy.
+        if is_lower(name.as_bytes()) {
+            return Ok(self.number(name));
+        }
+        let key = name.to_ascii_lowercase(alloc)?;
+        Ok(self.number(key.as_str()))
     }
 
     /// The number of a name, which gets one where it has none.
@@ -69,4 +86,11 @@ impl Names {
     {
         self.last[number] = Some(place);
     }
+}
+
+/// Whether no byte is an ASCII letter in upper case.
+fn is_lower(name: &[u8]) -> bool
+    ensures { IsTrue result → lower name.now ≡ name.now }
+{
+    !name.iter().any(|byte| byte.is_ascii_uppercase())
 }

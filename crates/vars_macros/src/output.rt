@@ -11,7 +11,8 @@ use dag_reader::Text;
 use std::alloc::Global;
 use std::str;
 
-const LONGEST_TEXT: usize = 65_536;
+/// How many bytes a text may stand for.
+pub(crate) const LONGEST_TEXT: usize = 65_536;
 
 const MOST_REFERENCES: usize = 65_536;
 

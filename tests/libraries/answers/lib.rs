@@ -2,7 +2,11 @@
 #![tactic(auto)]
 
 #[cfg(test)]
+mod advice;
+#[cfg(test)]
 mod audits;
+#[cfg(test)]
+mod begun;
 #[cfg(test)]
 mod checks;
 #[cfg(test)]
@@ -11,6 +15,8 @@ mod consoles;
 mod folders;
 #[cfg(test)]
 mod folds;
+#[cfg(test)]
+mod phases;
 #[cfg(test)]
 mod same;
 #[cfg(test)]

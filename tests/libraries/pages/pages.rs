@@ -88,7 +88,7 @@ fn a_row_is_escaped(rt: HostRuntime) -> Result<(), AllocError> {
     let wanted =
         "<tr class=\"error\"><td>&lt;b&gt;&amp;&quot;&#39;?</td><td>ERROR</td><td>2</td><td>-9</td>\
 <td>1.005</td><td>61.250</td><td><p><code>/bin/echo &#39;&lt;script&gt;&#39;</code></p>\
-<p>folder <code>/a&amp;b</code></p></td></tr>\n";
+<p>folder <a href=\"file:///a%26b\"><code>/a&amp;b</code></a></p></td></tr>\n";
     assert!(rt; text.as_str().contains(wanted));
     assert!(rt;
         text.as_str().contains(

@@ -1,5 +1,4 @@
 use Rattle.std.proofs.Common.{ℕ, List, Option, Bor, map, string_bytes}
-use Rattle.std.specs.Option.{option_map}
 use Rattle.std.proofs.lemmas.Result.{IfOk-weaker}
 use Rattle.node_machine.specs.declared.Record.{Record}
 use Rattle.run_plan.specs.Plan.{Plan}
@@ -44,32 +43,32 @@ returns-in_err-opened-clause-refused_held g c = λ honest.
 
 pub returns-in_err-core-clause-refused : goal.returns-in_err-core-clause-refused
 returns-in_err-core-clause-refused g c =
-    by-fault (IsNoWhy changing c.args.place.now.top.now) c.in_err-core.field-0.0 (has_no_status _ (refused-of-round changing c.args.place.now.top.now c.in_ok-opened.opened.plan (option_map (λ b. b.items) c.in_ok-opened.opened.journal) (c.in_ok-opened.ensures.opened c.in_ok-round.ensures.round) TellsOfNoRun _ c.in_err-core.ensures.refused))
+    by-fault (IsNoWhy changing c.args.place.now.top.now) c.in_err-core.field-0.0 (has_no_status _ (refused-of-round changing c.args.place.now.top.now c.in_ok-opened.opened.plan c.in_ok-opened.opened.journal (c.in_ok-opened.ensures.opened c.in_ok-round.ensures.round) TellsOfNoRun _ c.in_err-core.ensures.refused))
     c.from_residual-in_err-core.result c.from_residual-in_err-core.ensures.1
 
 pub returns-in_err-core-clause-refused_held : goal.returns-in_err-core-clause-refused_held
 returns-in_err-core-clause-refused_held g c = λ honest.
-    by-fault (IsNoWhy (fixed (g.F.Folder.holds c.args.folder.now)) c.args.place.now.top.now) c.in_err-core.field-0.0 (has_no_status _ (refused-of-round (fixed (g.F.Folder.holds c.args.folder.now)) c.args.place.now.top.now c.in_ok-opened.opened.plan (option_map (λ b. b.items) c.in_ok-opened.opened.journal) (c.in_ok-opened.ensures.held honest (c.in_ok-round.ensures.held honest)) TellsOfNoRun _ c.in_err-core.ensures.refused))
+    by-fault (IsNoWhy (fixed (g.F.Folder.holds c.args.folder.now)) c.args.place.now.top.now) c.in_err-core.field-0.0 (has_no_status _ (refused-of-round (fixed (g.F.Folder.holds c.args.folder.now)) c.args.place.now.top.now c.in_ok-opened.opened.plan c.in_ok-opened.opened.journal (c.in_ok-opened.ensures.held honest (c.in_ok-round.ensures.held honest)) TellsOfNoRun _ c.in_err-core.ensures.refused))
     c.from_residual-in_err-core.result c.from_residual-in_err-core.ensures.1
 
 pub returns-clause-refused : goal.returns-clause-refused
 returns-clause-refused g c =
-    weaker (IsNoWhy changing c.args.place.now.top.now) c.answer_of.result c.answer_of.ensures.refused (λ fault is. has_no_status fault (no-memory changing c.args.place.now.top.now c.in_ok-opened.opened.plan (option_map (λ b. b.items) c.in_ok-opened.opened.journal) (c.in_ok-opened.ensures.opened c.in_ok-round.ensures.round) fault is))
+    weaker (IsNoWhy changing c.args.place.now.top.now) c.answer_of.result c.answer_of.ensures.refused (λ fault is. has_no_status fault (no-memory changing c.args.place.now.top.now c.in_ok-opened.opened.plan c.in_ok-opened.opened.journal (c.in_ok-opened.ensures.opened c.in_ok-round.ensures.round) fault is))
 
 pub returns-clause-refused_held : goal.returns-clause-refused_held
 returns-clause-refused_held g c = λ honest.
-    weaker (IsNoWhy (fixed (g.F.Folder.holds c.args.folder.now)) c.args.place.now.top.now) c.answer_of.result c.answer_of.ensures.refused (λ fault is. has_no_status fault (no-memory (fixed (g.F.Folder.holds c.args.folder.now)) c.args.place.now.top.now c.in_ok-opened.opened.plan (option_map (λ b. b.items) c.in_ok-opened.opened.journal) (c.in_ok-opened.ensures.held honest (c.in_ok-round.ensures.held honest)) fault is))
+    weaker (IsNoWhy (fixed (g.F.Folder.holds c.args.folder.now)) c.args.place.now.top.now) c.answer_of.result c.answer_of.ensures.refused (λ fault is. has_no_status fault (no-memory (fixed (g.F.Folder.holds c.args.folder.now)) c.args.place.now.top.now c.in_ok-opened.opened.plan c.in_ok-opened.opened.journal (c.in_ok-opened.ensures.held honest (c.in_ok-round.ensures.held honest)) fault is))
 
 pub returns-clause-answered : goal.returns-clause-answered
 returns-clause-answered g c =
     IfOk-weaker c.answer_of.result _ _ (λ answer is.
-    of-records changing c.args.place.now.top.now c.in_ok-opened.opened.plan (option_map (λ b. b.items) c.in_ok-opened.opened.journal) (c.in_ok-opened.ensures.opened c.in_ok-round.ensures.round)
+    of-records changing c.args.place.now.top.now c.in_ok-opened.opened.plan c.in_ok-opened.opened.journal (c.in_ok-opened.ensures.opened c.in_ok-round.ensures.round)
     c.in_ok-core.core c.in_ok-core.ensures.plan c.in_ok-core.ensures.records c.in_ok-core.ensures.lawful
     (λ (p : Plan) (j : Option (List ℕ)) (past : List Record). IsAnswerOf c.args.form p past c.args.place.now.top.now (map (λ (n : Bor (List ℕ)). n.now) c.args.names.now) (string_bytes answer.text) (string_bytes answer.warnings) answer.status) is) c.answer_of.ensures.answered
 
 pub returns-clause-held : goal.returns-clause-held
 returns-clause-held g c = λ honest.
     IfOk-weaker c.answer_of.result _ _ (λ answer is.
-    of-records (fixed (g.F.Folder.holds c.args.folder.now)) c.args.place.now.top.now c.in_ok-opened.opened.plan (option_map (λ b. b.items) c.in_ok-opened.opened.journal) (c.in_ok-opened.ensures.held honest (c.in_ok-round.ensures.held honest))
+    of-records (fixed (g.F.Folder.holds c.args.folder.now)) c.args.place.now.top.now c.in_ok-opened.opened.plan c.in_ok-opened.opened.journal (c.in_ok-opened.ensures.held honest (c.in_ok-round.ensures.held honest))
     c.in_ok-core.core c.in_ok-core.ensures.plan c.in_ok-core.ensures.records c.in_ok-core.ensures.lawful
     (λ (p : Plan) (j : Option (List ℕ)) (past : List Record). IsAnswerOf c.args.form p past c.args.place.now.top.now (map (λ (n : Bor (List ℕ)). n.now) c.args.names.now) (string_bytes answer.text) (string_bytes answer.warnings) answer.status) is) c.answer_of.ensures.answered

@@ -1,5 +1,4 @@
 use Rattle.std.proofs.Common.{◌≡◌, ℕ, List, Option, IfErr, sym, subst}
-use Rattle.std.specs.Option.{option_map}
 use Rattle.run_plan.specs.Plan.{Plan}
 use Rattle.dag_main_check.proofs.Refusals.{weaker}
 use Rattle.dag_main_check.specs.declared.fault.RunFault.{RunFault}
@@ -25,7 +24,7 @@ pub returns-in_ok-round-in-Status-clause-refused : goal.returns-in_ok-round-in-S
 returns-in_ok-round-in-Status-clause-refused g c =
     subst (λ (q : Question). IfErr c.status_in.result (IsNotAnswered changing q c.args.top.now)) (sym c.in-Status.is)
     (weaker (IsRefusedOfLastRound changing c.args.top.now TellsOfNoRun) c.status_in.result c.status_in.ensures.refused
-    (refused-of-round changing c.args.top.now c.in_ok-round-in-Status.round.plan (option_map (λ b. b.items) c.in_ok-round-in-Status.round.journal) c.in_ok-round-in-Status.ensures.opened TellsOfNoRun))
+    (refused-of-round changing c.args.top.now c.in_ok-round-in-Status.round.plan c.in_ok-round-in-Status.round.journal c.in_ok-round-in-Status.ensures.opened TellsOfNoRun))
 
 pub returns-in_err-round-in-Status-clause-refused_held : goal.returns-in_err-round-in-Status-clause-refused_held
 returns-in_err-round-in-Status-clause-refused_held g c = λ honest.
@@ -36,7 +35,7 @@ pub returns-in_ok-round-in-Status-clause-refused_held : goal.returns-in_ok-round
 returns-in_ok-round-in-Status-clause-refused_held g c = λ honest.
     subst (λ (q : Question). IfErr c.status_in.result (IsNotAnswered (fixed (g.F.Folder.holds c.args.folder.now)) q c.args.top.now)) (sym c.in-Status.is)
     (weaker (IsRefusedOfLastRound (fixed (g.F.Folder.holds c.args.folder.now)) c.args.top.now TellsOfNoRun) c.status_in.result c.status_in.ensures.refused
-    (refused-of-round (fixed (g.F.Folder.holds c.args.folder.now)) c.args.top.now c.in_ok-round-in-Status.round.plan (option_map (λ b. b.items) c.in_ok-round-in-Status.round.journal) (c.in_ok-round-in-Status.ensures.held honest) TellsOfNoRun))
+    (refused-of-round (fixed (g.F.Folder.holds c.args.folder.now)) c.args.top.now c.in_ok-round-in-Status.round.plan c.in_ok-round-in-Status.round.journal (c.in_ok-round-in-Status.ensures.held honest) TellsOfNoRun))
 
 pub returns-in_err-round-in-Audit-clause-refused : goal.returns-in_err-round-in-Audit-clause-refused
 returns-in_err-round-in-Audit-clause-refused g c =
@@ -47,7 +46,7 @@ pub returns-in_ok-round-in-Audit-clause-refused : goal.returns-in_ok-round-in-Au
 returns-in_ok-round-in-Audit-clause-refused g c =
     subst (λ (q : Question). IfErr c.audit_in.result (IsNotAnswered changing q c.args.top.now)) (sym c.in-Audit.is)
     (weaker (IsRefusedOfLastRound changing c.args.top.now AuditRefused) c.audit_in.result c.audit_in.ensures.err
-    (refused-of-round changing c.args.top.now c.in_ok-round-in-Audit.round.plan (option_map (λ b. b.items) c.in_ok-round-in-Audit.round.journal) c.in_ok-round-in-Audit.ensures.opened AuditRefused))
+    (refused-of-round changing c.args.top.now c.in_ok-round-in-Audit.round.plan c.in_ok-round-in-Audit.round.journal c.in_ok-round-in-Audit.ensures.opened AuditRefused))
 
 pub returns-in_err-round-in-Audit-clause-refused_held : goal.returns-in_err-round-in-Audit-clause-refused_held
 returns-in_err-round-in-Audit-clause-refused_held g c = λ honest.
@@ -58,4 +57,4 @@ pub returns-in_ok-round-in-Audit-clause-refused_held : goal.returns-in_ok-round-
 returns-in_ok-round-in-Audit-clause-refused_held g c = λ honest.
     subst (λ (q : Question). IfErr c.audit_in.result (IsNotAnswered (fixed (g.F.Folder.holds c.args.folder.now)) q c.args.top.now)) (sym c.in-Audit.is)
     (weaker (IsRefusedOfLastRound (fixed (g.F.Folder.holds c.args.folder.now)) c.args.top.now AuditRefused) c.audit_in.result c.audit_in.ensures.err
-    (refused-of-round (fixed (g.F.Folder.holds c.args.folder.now)) c.args.top.now c.in_ok-round-in-Audit.round.plan (option_map (λ b. b.items) c.in_ok-round-in-Audit.round.journal) (c.in_ok-round-in-Audit.ensures.held honest) AuditRefused))
+    (refused-of-round (fixed (g.F.Folder.holds c.args.folder.now)) c.args.top.now c.in_ok-round-in-Audit.round.plan c.in_ok-round-in-Audit.round.journal (c.in_ok-round-in-Audit.ensures.held honest) AuditRefused))

@@ -1,6 +1,5 @@
 use Rattle.std.proofs.Common.{◌≡◌, ◌∙◌, Bool, true, false, not, refl, sym}
 use Rattle.std.proofs.lemmas.Bool.{false≢true}
-use Rattle.std.specs.Option.{option_map}
 use Rattle.dag_main_check.proofs.Refusals.{weaker}
 use Rattle.dag_main_files.specs.Opened.{changing, fixed}
 use Rattle.dag_main_files.proofs.RunFaults.{by-fault}
@@ -20,7 +19,7 @@ returns-in_err-round-clause-refused g c =
 
 pub returns-then-not-round-clause-none : goal.returns-then-not-round-clause-none
 returns-then-not-round-clause-none g c =
-    no_end (option_map (λ b. b.items) c.in_ok-round.round.journal) c.in_ok-round.ensures.round.journal_is (sym c.in_ok-round.ensures.ended ∙ goes-on _ c.if-not-round.true)
+    no_end c.in_ok-round.round.journal c.in_ok-round.ensures.round.journal_is (sym c.in_ok-round.ensures.ended ∙ goes-on _ c.if-not-round.true)
 
 pub returns-in_err-opened-clause-refused : goal.returns-in_err-opened-clause-refused
 returns-in_err-opened-clause-refused g c =
@@ -30,7 +29,7 @@ returns-in_err-opened-clause-refused g c =
 pub returns-clause-refused : goal.returns-clause-refused
 returns-clause-refused g c =
     weaker (IsNoStatus changing c.args.top.now) c.report_in.result c.report_in.ensures.refused
-    (refused-of-round changing c.args.top.now c.in_ok-opened.opened.plan (option_map (λ b. b.items) c.in_ok-opened.opened.journal) (c.in_ok-opened.ensures.opened c.in_ok-round.ensures.round) TellsOfNoRun)
+    (refused-of-round changing c.args.top.now c.in_ok-opened.opened.plan c.in_ok-opened.opened.journal (c.in_ok-opened.ensures.opened c.in_ok-round.ensures.round) TellsOfNoRun)
 
 pub returns-in_err-round-clause-refused_held : goal.returns-in_err-round-clause-refused_held
 returns-in_err-round-clause-refused_held g c = λ honest.
@@ -38,7 +37,7 @@ returns-in_err-round-clause-refused_held g c = λ honest.
 
 pub returns-then-not-round-clause-none_held : goal.returns-then-not-round-clause-none_held
 returns-then-not-round-clause-none_held g c = λ honest.
-    no_end (option_map (λ b. b.items) c.in_ok-round.round.journal) (c.in_ok-round.ensures.held honest).journal_is (sym c.in_ok-round.ensures.ended ∙ goes-on _ c.if-not-round.true)
+    no_end c.in_ok-round.round.journal (c.in_ok-round.ensures.held honest).journal_is (sym c.in_ok-round.ensures.ended ∙ goes-on _ c.if-not-round.true)
 
 pub returns-in_err-opened-clause-refused_held : goal.returns-in_err-opened-clause-refused_held
 returns-in_err-opened-clause-refused_held g c = λ honest.
@@ -48,4 +47,4 @@ returns-in_err-opened-clause-refused_held g c = λ honest.
 pub returns-clause-refused_held : goal.returns-clause-refused_held
 returns-clause-refused_held g c = λ honest.
     weaker (IsNoStatus (fixed (g.F.Folder.holds c.args.folder.now)) c.args.top.now) c.report_in.result c.report_in.ensures.refused
-    (refused-of-round (fixed (g.F.Folder.holds c.args.folder.now)) c.args.top.now c.in_ok-opened.opened.plan (option_map (λ b. b.items) c.in_ok-opened.opened.journal) (c.in_ok-opened.ensures.held honest (c.in_ok-round.ensures.held honest)) TellsOfNoRun)
+    (refused-of-round (fixed (g.F.Folder.holds c.args.folder.now)) c.args.top.now c.in_ok-opened.opened.plan c.in_ok-opened.opened.journal (c.in_ok-opened.ensures.held honest (c.in_ok-round.ensures.held honest)) TellsOfNoRun)

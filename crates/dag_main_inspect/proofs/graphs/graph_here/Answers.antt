@@ -1,5 +1,4 @@
-use Rattle.std.proofs.Common.{◌≡◌, ℕ, List, rules, subst}
-use Rattle.std.specs.Option.{option_map}
+use Rattle.std.proofs.Common.{rules}
 use Rattle.dag_main_check.proofs.Refusals.{weaker}
 use Rattle.dag_main_files.specs.Opened.{changing, fixed}
 use Rattle.dag_main_files.proofs.RunFaults.{by-fault}
@@ -22,11 +21,11 @@ returns-in_err-opened-clause-refused g c =
 pub returns-clause-refused : goal.returns-clause-refused
 returns-clause-refused g c =
     weaker (IsNotDrawn changing c.args.top.now) c.graph_plan.result c.graph_plan.ensures.refused
-    (λ fault why. not_by_journal fault (refused-of-round changing c.args.top.now c.in_ok-opened.opened.plan (option_map (λ b. b.items) c.in_ok-opened.opened.journal) (c.in_ok-opened.ensures.opened c.in_ok-round.ensures.round)
-    (λ plan journal. IsJournalDrawnFault plan (journal_bytes journal)) fault (subst (λ (b : List ℕ). IsJournalDrawnFault c.in_ok-opened.opened.plan b fault) c.bytes.ensures why)))
+    (λ fault why. not_by_journal fault (refused-of-round changing c.args.top.now c.in_ok-opened.opened.plan c.in_ok-opened.opened.journal (c.in_ok-opened.ensures.opened c.in_ok-round.ensures.round)
+    (λ plan journal. IsJournalDrawnFault plan (journal_bytes journal)) fault why))
 
-pub returns-then-is_none-clause-refused : goal.returns-then-is_none-clause-refused
-returns-then-is_none-clause-refused g c =
+pub returns-then-not-is_there-clause-refused : goal.returns-then-not-is_there-clause-refused
+returns-then-not-is_there-clause-refused g c =
     weaker (IsNotDrawn changing c.args.top.now) c.bare_graph.result c.bare_graph.ensures.refused
     (λ fault why. no_graph_alone fault (without-journal changing c.args.top.now _ _ c.in_ok-round.ensures.round (search rules)) why)
 
@@ -42,10 +41,10 @@ returns-in_err-opened-clause-refused_held g c = λ honest.
 pub returns-clause-refused_held : goal.returns-clause-refused_held
 returns-clause-refused_held g c = λ honest.
     weaker (IsNotDrawn (fixed (g.F.Folder.holds c.args.folder.now)) c.args.top.now) c.graph_plan.result c.graph_plan.ensures.refused
-    (λ fault why. not_by_journal fault (refused-of-round (fixed (g.F.Folder.holds c.args.folder.now)) c.args.top.now c.in_ok-opened.opened.plan (option_map (λ b. b.items) c.in_ok-opened.opened.journal) (c.in_ok-opened.ensures.held honest (c.in_ok-round.ensures.held honest))
-    (λ plan journal. IsJournalDrawnFault plan (journal_bytes journal)) fault (subst (λ (b : List ℕ). IsJournalDrawnFault c.in_ok-opened.opened.plan b fault) c.bytes.ensures why)))
+    (λ fault why. not_by_journal fault (refused-of-round (fixed (g.F.Folder.holds c.args.folder.now)) c.args.top.now c.in_ok-opened.opened.plan c.in_ok-opened.opened.journal (c.in_ok-opened.ensures.held honest (c.in_ok-round.ensures.held honest))
+    (λ plan journal. IsJournalDrawnFault plan (journal_bytes journal)) fault why))
 
-pub returns-then-is_none-clause-refused_held : goal.returns-then-is_none-clause-refused_held
-returns-then-is_none-clause-refused_held g c = λ honest.
+pub returns-then-not-is_there-clause-refused_held : goal.returns-then-not-is_there-clause-refused_held
+returns-then-not-is_there-clause-refused_held g c = λ honest.
     weaker (IsNotDrawn (fixed (g.F.Folder.holds c.args.folder.now)) c.args.top.now) c.bare_graph.result (c.bare_graph.ensures.refused_held honest)
     (λ fault why. no_graph_alone fault (without-journal (fixed (g.F.Folder.holds c.args.folder.now)) c.args.top.now _ _ (c.in_ok-round.ensures.held honest) (search rules)) why)

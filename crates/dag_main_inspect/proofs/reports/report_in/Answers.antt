@@ -1,5 +1,4 @@
 use Rattle.std.proofs.Common.{◌∙◌}
-use Rattle.std.specs.Option.{option_map}
 use Rattle.dag_main_check.proofs.Refusals.{handed-on}
 use Rattle.dag_main_inspect.specs.Statused.{journal_bytes}
 use Rattle.dag_main_inspect.specs.Asked.{TellsOfNoRun}
@@ -8,5 +7,5 @@ use Rattle.dag_main_inspect.proofs.reports.report_in.Goals as goal
 
 pub returns-in_err-report-clause-refused : goal.returns-in_err-report-clause-refused
 returns-in_err-report-clause-refused c =
-    handed-on (TellsOfNoRun c.args.round.now.plan (option_map (λ b. b.items) c.args.round.now.journal)) c.from_residual-in_err-report.result c.from_residual-in_err-report.ensures.1
-    (λ fault same. owed-memory c.args.round.now.plan (journal_bytes (option_map (λ b. b.items) c.args.round.now.journal)) fault (same ∙ c.in_err-report.ensures.refused))
+    handed-on (TellsOfNoRun c.args.round.now.plan c.args.round.now.journal) c.from_residual-in_err-report.result c.from_residual-in_err-report.ensures.1
+    (λ fault same. owed-memory c.args.round.now.plan (journal_bytes c.args.round.now.journal) fault (same ∙ c.in_err-report.ensures.refused))

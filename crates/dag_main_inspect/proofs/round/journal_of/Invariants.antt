@@ -1,9 +1,6 @@
 use Rattle.std.proofs.Common.{◌≡◌}
-use Rattle.std.specs.Option.{option_map}
 use Rattle.dag_main_files.specs.Beside.{journal_name_of}
-use Rattle.dag_main_inspect.specs.LastRound.{IsHead}
 use Rattle.dag_main_inspect.proofs.round.journal_of.Given as goal
 
 abbrev pub invariant-loop : goal.invariant-loop
-invariant-loop g l = (g.F.Folder.honest l.folder → option_map (λ b. b.items) l.found.bytes ≡ g.F.Folder.holds l.folder (journal_name_of l.top))
-    × IsHead (option_map (λ b. b.items) l.found.bytes) l.found.head
+invariant-loop g l = g.F.Folder.honest l.folder → l.found ≡ g.F.Folder.holds l.folder (journal_name_of l.top)

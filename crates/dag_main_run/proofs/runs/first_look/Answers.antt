@@ -29,10 +29,7 @@ returns-in-Err-InManager-clause-refused_held g c = λ honest.
 
 pub returns-in-Err : goal.returns-in-Err
 returns-in-Err g c = record {
-  held = λ honest. tt;
-  numbers = tt;
-  by = tt;
-  rescue = tt;
+  found = tt;
   refused = not_found_at_first c.in-Err.fault c.in-Err.ensures.refused;
   refused_held = λ honest. not_found_at_first c.in-Err.fault (c.in-Err.ensures.refused_held honest);
   changes = ([], not_locked, sym (append-nil c.args.changes.now));

@@ -12,8 +12,14 @@ returns-in_err-rescue-clause-refused g c =
     by-fault (IsFindingFault c.args.place.now.top.now c.args.options.now) c.in_err-rescue.field-0.0 (no_rescue c.in_ok-round.round _ c.in_ok-round.ensures.by c.in_err-rescue.ensures.refused)
     c.from_residual-in_err-rescue.result c.from_residual-in_err-rescue.ensures.1
 
-pub returns-clause-held : goal.returns-clause-held
-returns-clause-held g c = λ honest. (c.in_ok-round.ensures.held honest, c.in_ok-rescue.ensures.held honest)
+pub returns-clause-found : goal.returns-clause-found
+returns-clause-found g c = record {
+  by_options = c.in_ok-round.ensures.by;
+  rescue_is = c.in_ok-rescue.ensures.read;
+  next = c.in_ok-round.ensures.numbers.0;
+  used = c.in_ok-round.ensures.numbers.1;
+  held = λ honest. (c.in_ok-round.ensures.held honest, c.in_ok-rescue.ensures.held honest);
+}
 
 pub returns-in_err-round-clause-refused_held : goal.returns-in_err-round-clause-refused_held
 returns-in_err-round-clause-refused_held g c = λ honest.

@@ -1,11 +1,11 @@
-use Rattle.std.proofs.Common.{◌≡◌, ◌∙◌, ℕ, List, Option, Ok, Err, ap, refl, sym, subst}
+use Rattle.std.proofs.Common.{◌∙◌, ℕ, List, Option, Ok, Err, ap, refl, sym, subst}
 use Rattle.std.specs.Option.{option_map}
 use Rattle.splices_flat.specs.FileSet.{entries_of}
-use Rattle.dag_main_check.specs.declared.fault.RunFault.{RunFault}
 use Rattle.dag_main_check.specs.declared.warnings.Answer.{Answer}
 use Rattle.dag_main_run.specs.declared.runs.Report.{Report}
 use Rattle.dag_main_run.specs.RunChanges.{ChangesAsRound}
-use Rattle.dag_main_run.proofs.RunChanges.{round-unchanged, round-as, makes-if-refused}
+use Rattle.dag_main_run.specs.Sites.{IsRoundStoppedAt}
+use Rattle.dag_main_run.proofs.RunChanges.{round-unchanged, round-handed-on}
 use Rattle.splices_flat.specs.Dag.{Dag}
 use Rattle.dag_graph.specs.Graph.{Network}
 use Rattle.dag_main_check.specs.Warnings.{warning_lines}
@@ -20,7 +20,7 @@ use Rattle.dag_main_run.proofs.runs.run_locked.Goals as goal
 pub run_planned-requires-clause-by_journal : goal.run_planned-requires-clause-by_journal
 run_planned-requires-clause-by_journal g c = λ honest.
     subst (λ (r : Round). HasJournal (journal_in (g.H.Folder.holds c.args.site.now) c.args.place.now.top.now) r) (sym (c.is_same.ensures.round c.if-not-is_same.false))
-    (c.in_ok-again.ensures.held honest).0.by_journal
+    (c.in_ok-again.ensures.found.held honest).0.by_journal
 
 pub returns-in_err-again-clause-refused : goal.returns-in_err-again-clause-refused
 returns-in_err-again-clause-refused g c =
@@ -63,29 +63,32 @@ returns-in_err-report-clause-refused_held g c = λ honest.
 
 pub returns-in_err-again-clause-changes : goal.returns-in_err-again-clause-changes
 returns-in_err-again-clause-changes g c =
-    round-unchanged c.args.place.now.top.now c.args.plan.now.digest (entries_of c.args.files.now) (option_map (λ b. b.items) c.args.found.now.1) c.args.found.now.0
-    _ c.from_residual.result c.from_residual.ensures.1 c.args.changes.now c.args.changes.now refl
+    round-unchanged c.args.place.now.top.now c.args.plan.now.digest (entries_of c.args.files.now) (option_map (λ b. b.items) c.args.found.now.1) c.args.found.now.0 _
+    c.in_err-again.field-0.0 c.from_residual.result c.from_residual.ensures.1 c.args.changes.now c.args.changes.now refl
 
 pub returns-in_err-warnings-clause-changes : goal.returns-in_err-warnings-clause-changes
 returns-in_err-warnings-clause-changes g c =
-    round-unchanged c.args.place.now.top.now c.args.plan.now.digest (entries_of c.args.files.now) (option_map (λ b. b.items) c.args.found.now.1) c.args.found.now.0
-    _ c.from_residual-in_err-warnings.result c.from_residual-in_err-warnings.ensures.1 c.args.changes.now c.args.changes.now refl
+    round-unchanged c.args.place.now.top.now c.args.plan.now.digest (entries_of c.args.files.now) (option_map (λ b. b.items) c.args.found.now.1) c.args.found.now.0 _
+    Memory c.from_residual-in_err-warnings.result c.from_residual-in_err-warnings.ensures.1 c.args.changes.now c.args.changes.now refl
 
 pub returns-then-not-is_same-clause-changes : goal.returns-then-not-is_same-clause-changes
 returns-then-not-is_same-clause-changes g c =
-    round-unchanged c.args.place.now.top.now c.args.plan.now.digest (entries_of c.args.files.now) (option_map (λ b. b.items) c.args.found.now.1) c.args.found.now.0
-    {A = Answer} (λ (fault : RunFault). fault ≡ c.taken.result) (Err c.taken.result) refl c.args.changes.now c.args.changes.now refl
+    round-unchanged c.args.place.now.top.now c.args.plan.now.digest (entries_of c.args.files.now) (option_map (λ b. b.items) c.args.found.now.1) c.args.found.now.0 _
+    {A = Answer} c.taken.result (Err c.taken.result) refl c.args.changes.now c.args.changes.now refl
 
 pub returns-in_err-report-clause-changes : goal.returns-in_err-report-clause-changes
 returns-in_err-report-clause-changes g c =
-    round-as {A = Report} {E = RunFault} (Err c.in_err-report.field-0.0) c.from_residual-in_err-report.result
-    (makes-if-refused {A = Report} {E = RunFault} _ (Err c.in_err-report.field-0.0) c.from_residual-in_err-report.result c.from_residual-in_err-report.ensures.1)
-    c.args.place.now.top.now c.args.plan.now.digest (entries_of c.args.files.now) (option_map (λ b. b.items) c.args.found.now.1) c.args.found.now.0 c.args.changes.now c.run_planned.new.changes
-    (subst (λ (rescue : Option (List ℕ)). ChangesAsRound {A = Report} {E = RunFault} (Err c.in_err-report.field-0.0) c.args.place.now.top.now c.args.plan.now.digest (entries_of c.args.files.now) rescue
+    let Stopped = IsRoundStoppedAt g.H.Journal.Disk g.H.Rescue.Disk (g.H.Site.own c.args.site.now) (g.H.Folder.honest c.args.site.now) (g.H.Folder.holds c.args.site.now)
+    c.args.place.now.top.now c.args.options.now.limits c.args.launcher.now c.args.plan.now c.args.found.now.0 in
+    round-handed-on c.args.place.now.top.now c.args.plan.now.digest (entries_of c.args.files.now) (option_map (λ b. b.items) c.args.found.now.1) c.args.found.now.0 _
+    Report c.in_err-report.field-0.0 c.from_residual-in_err-report.result c.from_residual-in_err-report.ensures.1 c.args.changes.now c.run_planned.new.changes
+    (subst (λ (rescue : Option (List ℕ)). ChangesAsRound {A = Report} (Err c.in_err-report.field-0.0) Stopped c.args.place.now.top.now c.args.plan.now.digest (entries_of c.args.files.now) rescue
     c.args.found.now.0 c.args.changes.now c.run_planned.new.changes) c.as_deref.ensures.value c.in_err-report.ensures.changes)
 
 pub returns-clause-changes : goal.returns-clause-changes
 returns-clause-changes g c =
-    let changes = subst (λ (rescue : Option (List ℕ)). ChangesAsRound {A = Report} {E = RunFault} (Ok c.in_ok-report.report) c.args.place.now.top.now c.args.plan.now.digest
+    let Stopped = IsRoundStoppedAt g.H.Journal.Disk g.H.Rescue.Disk (g.H.Site.own c.args.site.now) (g.H.Folder.honest c.args.site.now) (g.H.Folder.holds c.args.site.now)
+    c.args.place.now.top.now c.args.options.now.limits c.args.launcher.now c.args.plan.now c.args.found.now.0 in
+    let changes = subst (λ (rescue : Option (List ℕ)). ChangesAsRound {A = Report} (Ok c.in_ok-report.report) Stopped c.args.place.now.top.now c.args.plan.now.digest
     (entries_of c.args.files.now) rescue c.args.found.now.0 c.args.changes.now c.run_planned.new.changes) c.as_deref.ensures.value c.in_ok-report.ensures.changes in
-    (changes.0, changes.1, changes.2)
+    (changes.0, changes.1, changes.2, changes.3)

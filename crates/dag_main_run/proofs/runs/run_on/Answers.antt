@@ -1,11 +1,9 @@
-use Rattle.std.proofs.Common.{◌≡◌, ℕ, List, Result, Ok, Err, refl, subst, sym}
+use Rattle.std.proofs.Common.{ℕ, List, Result, Ok, Err, refl, subst, sym}
 use Rattle.std.specs.Prelude.{IfErr}
 use Rattle.std.specs.Option.{option_map}
 use Rattle.splices_flat.specs.FileSet.{entries_of}
-use Rattle.dag_main_files.proofs.Makes.{begun-all}
 use Rattle.dag_main_run.specs.declared.runs.Report.{Report}
-use Rattle.dag_main_run.specs.RunChanges.{readies}
-use Rattle.dag_main_run.proofs.RunChanges.{round-unchanged, round-begun, round-settled, round-kept, round-led}
+use Rattle.dag_main_run.proofs.RunChanges.{steps-of, readied-of, round-unchanged, round-unready, round-unsettled, round-without-memory, readied-begun, kept-begun, round-led}
 use Rattle.dag_main_run.specs.Runs.{IsStopFault, no_endings, orphans_in_the_way, no_status_file, not_readied, round_stopped, leading_had_no_memory}
 use Rattle.dag_main_args.specs.declared.request.RunOptions.{RunOptions}
 use Rattle.dag_main_files.specs.declared.rounds.Round.{Round}
@@ -62,38 +60,40 @@ returns-clause-refused g c = stopped-round _ _ _ _ _ c.led_watched.result c.led_
 
 pub returns-then-is_deaf-clause-changes : goal.returns-then-is_deaf-clause-changes
 returns-then-is_deaf-clause-changes g c =
-    round-unchanged c.args.place.now.top.now c.args.plan.now.digest (entries_of c.args.inputs.files.now) (option_map (λ b. b.now) c.args.inputs.rescue) c.args.round.now
-    {A = Report} (λ (fault : RunFault). fault ≡ WaitFault) (Err WaitFault) refl c.args.changes.now c.args.changes.now refl
+    round-unchanged c.args.place.now.top.now c.args.plan.now.digest (entries_of c.args.inputs.files.now) (option_map (λ b. b.now) c.args.inputs.rescue) c.args.round.now _
+    {A = Report} WaitFault (Err WaitFault) refl c.args.changes.now c.args.changes.now refl
 
 pub returns-in_err-orphans-clause-changes : goal.returns-in_err-orphans-clause-changes
 returns-in_err-orphans-clause-changes g c =
-    round-unchanged c.args.place.now.top.now c.args.plan.now.digest (entries_of c.args.inputs.files.now) (option_map (λ b. b.now) c.args.inputs.rescue) c.args.round.now
-    _ c.from_residual.result c.from_residual.ensures.1 c.args.changes.now c.args.changes.now refl
+    round-unchanged c.args.place.now.top.now c.args.plan.now.digest (entries_of c.args.inputs.files.now) (option_map (λ b. b.now) c.args.inputs.rescue) c.args.round.now _
+    c.in_err-orphans.field-0.0 c.from_residual.result c.from_residual.ensures.1 c.args.changes.now c.args.changes.now refl
 
 pub returns-in_err-status-clause-changes : goal.returns-in_err-status-clause-changes
 returns-in_err-status-clause-changes g c =
-    round-unchanged c.args.place.now.top.now c.args.plan.now.digest (entries_of c.args.inputs.files.now) (option_map (λ b. b.now) c.args.inputs.rescue) c.args.round.now
-    _ c.from_residual-in_err-status.result c.from_residual-in_err-status.ensures.1 c.args.changes.now c.args.changes.now refl
+    round-unchanged c.args.place.now.top.now c.args.plan.now.digest (entries_of c.args.inputs.files.now) (option_map (λ b. b.now) c.args.inputs.rescue) c.args.round.now _
+    c.in_err-status.field-0.0 c.from_residual-in_err-status.result c.from_residual-in_err-status.ensures.1 c.args.changes.now c.args.changes.now refl
 
 pub returns-in_err-journal-clause-changes : goal.returns-in_err-journal-clause-changes
 returns-in_err-journal-clause-changes g c =
     let made = c.in_err-journal.ensures.changes in
-    round-begun c.args.place.now.top.now c.args.plan.now.digest (entries_of c.args.inputs.files.now) (option_map (λ b. b.now) c.args.inputs.rescue) c.args.round.now
-    _ c.from_residual-in_err-journal.result c.from_residual-in_err-journal.ensures.1 c.args.changes.now made.0 made.1 c.readied.new.changes made.2
+    round-unready c.args.place.now.top.now c.args.plan.now.digest (entries_of c.args.inputs.files.now) (option_map (λ b. b.now) c.args.inputs.rescue) c.args.round.now _
+    c.in_err-journal.field-0.0 c.from_residual-in_err-journal.result c.from_residual-in_err-journal.ensures.1 c.args.changes.now c.in_err-journal.ensures.refused made.0 made.1
+    c.readied.new.changes made.2
 
 pub returns-in_err-halt-clause-changes : goal.returns-in_err-halt-clause-changes
 returns-in_err-halt-clause-changes g c =
     let made = c.in_ok-journal.ensures.changes in
-    round-begun c.args.place.now.top.now c.args.plan.now.digest (entries_of c.args.inputs.files.now) (option_map (λ b. b.now) c.args.inputs.rescue) c.args.round.now
-    _ c.from_residual-in_err-halt.result c.from_residual-in_err-halt.ensures.1 c.args.changes.now made.0 made.1 c.readied.new.changes
-    (begun-all (readies c.args.place.now.top.now c.args.round.now made.0) c.args.changes.now c.readied.new.changes made.2)
+    round-without-memory c.args.place.now.top.now c.args.plan.now.digest (entries_of c.args.inputs.files.now) (option_map (λ b. b.now) c.args.inputs.rescue) c.args.round.now _
+    Memory c.from_residual-in_err-halt.result c.from_residual-in_err-halt.ensures.1 c.args.changes.now refl
+    (readied-of c.args.place.now.top.now c.args.plan.now.digest (entries_of c.args.inputs.files.now) (option_map (λ b. b.now) c.args.inputs.rescue) c.args.round.now made.0 made.1) c.readied.new.changes
+    (readied-begun c.args.place.now.top.now c.args.plan.now.digest (entries_of c.args.inputs.files.now) (option_map (λ b. b.now) c.args.inputs.rescue) c.args.round.now c.args.changes.now made.0 made.1 c.readied.new.changes made.2)
 
 pub returns-in_err-kept-clause-changes : goal.returns-in_err-kept-clause-changes
 returns-in_err-kept-clause-changes g c =
     let made = c.in_ok-journal.ensures.changes in
     let dealt = c.in_err-kept.ensures.changes in
-    round-settled c.args.place.now.top.now c.args.plan.now.digest (entries_of c.args.inputs.files.now) (option_map (λ b. b.now) c.args.inputs.rescue) c.args.round.now
-    _ c.from_residual-in_err-kept.result c.from_residual-in_err-kept.ensures.1 c.args.changes.now made.0 made.1 c.readied.new.changes made.2
+    round-unsettled c.args.place.now.top.now c.args.plan.now.digest (entries_of c.args.inputs.files.now) (option_map (λ b. b.now) c.args.inputs.rescue) c.args.round.now _
+    c.in_err-kept.field-0.0 c.from_residual-in_err-kept.result c.from_residual-in_err-kept.ensures.1 c.args.changes.now c.in_err-kept.ensures.refused made.0 made.1 c.readied.new.changes made.2
     dealt.0 dealt.1 c.settled.new.changes dealt.2
 
 pub returns-in_err-left_out-clause-changes : goal.returns-in_err-left_out-clause-changes
@@ -101,33 +101,39 @@ returns-in_err-left_out-clause-changes g c =
     let made = c.in_ok-journal.ensures.changes in
     let dealt = c.in_ok-kept.ensures.changes in
     let kept = c.in_err-left_out.ensures.changes in
-    round-kept c.args.place.now.top.now c.args.plan.now.digest (entries_of c.args.inputs.files.now) (option_map (λ b. b.now) c.args.inputs.rescue) c.args.round.now
-    _ c.from_residual-in_err-left_out.result c.from_residual-in_err-left_out.ensures.1 c.args.changes.now made.0 made.1 c.readied.new.changes made.2
-    dealt.0 dealt.1 c.settled.new.changes dealt.2 kept.0 kept.1 kept.2 c.keep_inputs.new.changes kept.3
+    round-without-memory c.args.place.now.top.now c.args.plan.now.digest (entries_of c.args.inputs.files.now) (option_map (λ b. b.now) c.args.inputs.rescue) c.args.round.now _
+    c.in_err-left_out.field-0.0 c.from_residual-in_err-left_out.result c.from_residual-in_err-left_out.ensures.1 c.args.changes.now c.in_err-left_out.ensures.err
+    (steps-of c.args.place.now.top.now c.args.plan.now.digest (entries_of c.args.inputs.files.now) (option_map (λ b. b.now) c.args.inputs.rescue) c.args.round.now made.0 made.1 dealt.0 dealt.1 kept.0 kept.1 kept.2) c.keep_inputs.new.changes
+    (kept-begun c.args.place.now.top.now c.args.plan.now.digest (entries_of c.args.inputs.files.now) (option_map (λ b. b.now) c.args.inputs.rescue) c.args.round.now c.args.changes.now made.0 made.1 c.readied.new.changes made.2
+    dealt.0 dealt.1 c.settled.new.changes dealt.2 kept.0 kept.1 kept.2 c.keep_inputs.new.changes kept.3)
 
 pub returns-in_err-log-clause-changes : goal.returns-in_err-log-clause-changes
 returns-in_err-log-clause-changes g c =
     let made = c.in_ok-journal.ensures.changes in
     let dealt = c.in_ok-kept.ensures.changes in
     let kept = c.in_ok-left_out.ensures.changes in
-    round-kept c.args.place.now.top.now c.args.plan.now.digest (entries_of c.args.inputs.files.now) (option_map (λ b. b.now) c.args.inputs.rescue) c.args.round.now
-    _ c.from_residual-in_err-log.result c.from_residual-in_err-log.ensures.1 c.args.changes.now made.0 made.1 c.readied.new.changes made.2
-    dealt.0 dealt.1 c.settled.new.changes dealt.2 kept.0 kept.1 kept.2 c.keep_inputs.new.changes kept.3
+    round-without-memory c.args.place.now.top.now c.args.plan.now.digest (entries_of c.args.inputs.files.now) (option_map (λ b. b.now) c.args.inputs.rescue) c.args.round.now _
+    Memory c.from_residual-in_err-log.result c.from_residual-in_err-log.ensures.1 c.args.changes.now refl
+    (steps-of c.args.place.now.top.now c.args.plan.now.digest (entries_of c.args.inputs.files.now) (option_map (λ b. b.now) c.args.inputs.rescue) c.args.round.now made.0 made.1 dealt.0 dealt.1 kept.0 kept.1 kept.2) c.keep_inputs.new.changes
+    (kept-begun c.args.place.now.top.now c.args.plan.now.digest (entries_of c.args.inputs.files.now) (option_map (λ b. b.now) c.args.inputs.rescue) c.args.round.now c.args.changes.now made.0 made.1 c.readied.new.changes made.2
+    dealt.0 dealt.1 c.settled.new.changes dealt.2 kept.0 kept.1 kept.2 c.keep_inputs.new.changes kept.3)
 
 pub returns-in_err-known-clause-changes : goal.returns-in_err-known-clause-changes
 returns-in_err-known-clause-changes g c =
     let made = c.in_ok-journal.ensures.changes in
     let dealt = c.in_ok-kept.ensures.changes in
     let kept = c.in_ok-left_out.ensures.changes in
-    round-kept c.args.place.now.top.now c.args.plan.now.digest (entries_of c.args.inputs.files.now) (option_map (λ b. b.now) c.args.inputs.rescue) c.args.round.now
-    _ c.from_residual-in_err-known.result c.from_residual-in_err-known.ensures.1 c.args.changes.now made.0 made.1 c.readied.new.changes made.2
-    dealt.0 dealt.1 c.settled.new.changes dealt.2 kept.0 kept.1 kept.2 c.keep_inputs.new.changes kept.3
+    round-without-memory c.args.place.now.top.now c.args.plan.now.digest (entries_of c.args.inputs.files.now) (option_map (λ b. b.now) c.args.inputs.rescue) c.args.round.now _
+    Memory c.from_residual-in_err-known.result c.from_residual-in_err-known.ensures.1 c.args.changes.now refl
+    (steps-of c.args.place.now.top.now c.args.plan.now.digest (entries_of c.args.inputs.files.now) (option_map (λ b. b.now) c.args.inputs.rescue) c.args.round.now made.0 made.1 dealt.0 dealt.1 kept.0 kept.1 kept.2) c.keep_inputs.new.changes
+    (kept-begun c.args.place.now.top.now c.args.plan.now.digest (entries_of c.args.inputs.files.now) (option_map (λ b. b.now) c.args.inputs.rescue) c.args.round.now c.args.changes.now made.0 made.1 c.readied.new.changes made.2
+    dealt.0 dealt.1 c.settled.new.changes dealt.2 kept.0 kept.1 kept.2 c.keep_inputs.new.changes kept.3)
 
 pub returns-clause-changes : goal.returns-clause-changes
 returns-clause-changes g c =
     let made = c.in_ok-journal.ensures.changes in
     let dealt = c.in_ok-kept.ensures.changes in
     let kept = c.in_ok-left_out.ensures.changes in
-    round-led c.args.place.now.top.now c.args.plan.now.digest (entries_of c.args.inputs.files.now) (option_map (λ b. b.now) c.args.inputs.rescue) c.args.round.now
-    c.led_watched.result c.args.changes.now made.0 made.1 c.readied.new.changes made.2
+    round-led c.args.place.now.top.now c.args.plan.now.digest (entries_of c.args.inputs.files.now) (option_map (λ b. b.now) c.args.inputs.rescue) c.args.round.now _
+    c.led_watched.result c.led_watched.ensures.refused c.args.changes.now made.0 made.1 c.readied.new.changes made.2
     dealt.0 dealt.1 c.settled.new.changes dealt.2 kept.0 kept.1 kept.2 c.keep_inputs.new.changes kept.3 c.led_watched.new.changes c.led_watched.ensures.changes

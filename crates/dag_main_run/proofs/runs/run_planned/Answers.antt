@@ -14,10 +14,10 @@ returns-in_err-journal-clause-refused g c = by-fault (IsStopFault _ _ _ _ _) c.i
 
 pub returns-in_err-rescue-clause-changes : goal.returns-in_err-rescue-clause-changes
 returns-in_err-rescue-clause-changes g c =
-    round-unchanged c.args.place.now.top.now c.args.plan.now.digest (entries_of c.args.inputs.files.now) (option_map (λ b. b.now) c.args.inputs.rescue) c.args.round.now
-    _ c.from_residual.result c.from_residual.ensures.1 c.args.changes.now c.args.changes.now refl
+    round-unchanged c.args.place.now.top.now c.args.plan.now.digest (entries_of c.args.inputs.files.now) (option_map (λ b. b.now) c.args.inputs.rescue) c.args.round.now _
+    c.in_err-rescue.field-0.0 c.from_residual.result c.from_residual.ensures.1 c.args.changes.now c.args.changes.now refl
 
 pub returns-in_err-journal-clause-changes : goal.returns-in_err-journal-clause-changes
 returns-in_err-journal-clause-changes g c =
-    round-unchanged c.args.place.now.top.now c.args.plan.now.digest (entries_of c.args.inputs.files.now) (option_map (λ b. b.now) c.args.inputs.rescue) c.args.round.now
-    _ c.from_residual-in_err-journal.result c.from_residual-in_err-journal.ensures.1 c.args.changes.now c.args.changes.now refl
+    round-unchanged c.args.place.now.top.now c.args.plan.now.digest (entries_of c.args.inputs.files.now) (option_map (λ b. b.now) c.args.inputs.rescue) c.args.round.now _
+    c.in_err-journal.field-0.0 c.from_residual-in_err-journal.result c.from_residual-in_err-journal.ensures.1 c.args.changes.now c.args.changes.now refl

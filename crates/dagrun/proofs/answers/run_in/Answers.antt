@@ -1,7 +1,7 @@
 use Rattle.dag_main_run.specs.Sites.{rounds_at}
 use Rattle.dagrun.specs.Answered.{as_text, as_json, run_refused, not_stated, printed_run, changing_files, held_in, run_contract}
 use Rattle.dag_main_run.specs.RunChanges.{found_where}
-use Rattle.dagrun.proofs.Changes.{run-handed-on, run-answered}
+use Rattle.dagrun.proofs.Changes.{run-handed-on, run-untold, run-answered}
 use Rattle.dagrun.proofs.Worlds.{refused-to}
 use Rattle.dagrun.proofs.answers.run_in.Goals as goal
 
@@ -43,18 +43,21 @@ returns-clause-held g c = λ honest unstreamed. as_json _ _ _ c.if-not-options.f
 
 pub returns-in_err-answer-clause-changes : goal.returns-in_err-answer-clause-changes
 returns-in_err-answer-clause-changes g c =
-    run-handed-on _ (found_where (g.F.Folder.honest c.args.folder.now) (g.F.Folder.holds c.args.folder.now) (g.F.Folder.has c.args.folder.now) c.args.dag.now c.args.options.now)
-    c.args.dag.now c.args.options.now _ c.from_residual.result c.from_residual.ensures.1 _ _ c.in_err-answer.ensures.changes
+    run-handed-on c.in_err-answer.field-0.0 c.from_residual.result c.from_residual.ensures.1 (found_where (g.F.Folder.honest c.args.folder.now) (g.F.Folder.holds c.args.folder.now) (g.F.Folder.has c.args.folder.now))
+    (rounds_at g.F.Journal.Disk g.F.Rescue.Disk (g.F.Site.own c.args.folder.now) (g.F.Folder.honest c.args.folder.now) (g.F.Folder.holds c.args.folder.now))
+    c.args.dag.now c.args.options.now _ _ c.in_err-answer.ensures.changes
 
 pub returns-then-not-options-clause-changes : goal.returns-then-not-options-clause-changes
 returns-then-not-options-clause-changes g c = c.in_ok-answer.ensures.changes
 
 pub returns-in_err-states-clause-changes : goal.returns-in_err-states-clause-changes
 returns-in_err-states-clause-changes g c =
-    run-handed-on _ (found_where (g.F.Folder.honest c.args.folder.now) (g.F.Folder.holds c.args.folder.now) (g.F.Folder.has c.args.folder.now) c.args.dag.now c.args.options.now)
-    c.args.dag.now c.args.options.now _ c.from_residual-in_err-states.result c.from_residual-in_err-states.ensures.1 _ _ c.in_ok-answer.ensures.changes
+    run-untold _ c.from_residual-in_err-states.result c.from_residual-in_err-states.ensures.1 (found_where (g.F.Folder.honest c.args.folder.now) (g.F.Folder.holds c.args.folder.now) (g.F.Folder.has c.args.folder.now))
+    (rounds_at g.F.Journal.Disk g.F.Rescue.Disk (g.F.Site.own c.args.folder.now) (g.F.Folder.honest c.args.folder.now) (g.F.Folder.holds c.args.folder.now))
+    c.args.dag.now c.args.options.now c.if-not-options.false c.in_ok-answer.answer _ _ c.in_ok-answer.ensures.changes
 
 pub returns-clause-changes : goal.returns-clause-changes
 returns-clause-changes g c =
-    run-answered (found_where (g.F.Folder.honest c.args.folder.now) (g.F.Folder.holds c.args.folder.now) (g.F.Folder.has c.args.folder.now) c.args.dag.now c.args.options.now)
+    run-answered (found_where (g.F.Folder.honest c.args.folder.now) (g.F.Folder.holds c.args.folder.now) (g.F.Folder.has c.args.folder.now))
+    (rounds_at g.F.Journal.Disk g.F.Rescue.Disk (g.F.Site.own c.args.folder.now) (g.F.Folder.honest c.args.folder.now) (g.F.Folder.holds c.args.folder.now))
     c.args.dag.now c.args.options.now _ _ _ _ c.in_ok-answer.ensures.changes

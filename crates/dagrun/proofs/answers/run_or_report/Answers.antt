@@ -4,9 +4,7 @@ use Rattle.std.proofs.lemmas.Bool.{false≢true}
 use Rattle.std.proofs.lemmas.Result.{IfOk-weaker, IfErr-weaker}
 use Rattle.dag_main_run.specs.Sites.{rounds_at}
 use Rattle.dagrun.specs.Answered.{changing_files, held_in, run_contract, not_run, not_reported, led, reported_again}
-use Rattle.dag_main_run.specs.RunChanges.{found_where}
 use Rattle.dagrun.specs.Changes.{only_reported, ran}
-use Rattle.dagrun.proofs.Changes.{run-unchanged}
 use Rattle.dagrun.proofs.Worlds.{comes-to, refused-to}
 use Rattle.dagrun.proofs.answers.run_or_report.Goals as goal
 
@@ -64,9 +62,7 @@ pub returns-then-not-options-clause-changes : goal.returns-then-not-options-clau
 returns-then-not-options-clause-changes g c = ran c.run_dag.ensures.changes
 
 pub returns-in_err-told-clause-changes : goal.returns-in_err-told-clause-changes
-returns-in_err-told-clause-changes g c =
-    run-unchanged _ (found_where (g.F.Folder.honest c.args.folder.now) (g.F.Folder.holds c.args.folder.now) (g.F.Folder.has c.args.folder.now) c.args.dag.now c.args.options.now)
-    c.args.dag.now c.args.options.now c.from_residual.result c.from_residual.ensures.1 _
+returns-in_err-told-clause-changes g c = only_reported c.if-not-options.false refl
 
 pub returns-in-Some-clause-changes : goal.returns-in-Some-clause-changes
 returns-in-Some-clause-changes g c = only_reported c.if-not-options.false refl

@@ -1,6 +1,5 @@
 use Rattle.std.proofs.Common.{sym, subst}
 use Rattle.dag_main_check.specs.declared.fault.RunFault.{RunFault}
-use Rattle.dag_main_check.specs.declared.fault.RunFault.TheVariants.{Memory}
 use Rattle.salvage.specs.declared.fault.SalvageFault.TheVariants.{Refused}
 use Rattle.salvage.specs.Sight.{any_files, held_files, held_files_if}
 use Rattle.dag_main_check.proofs.Refusals.{handed-on, weaker}
@@ -75,7 +74,10 @@ returns-in-Ok-clause-changes g c = salvage_written _ _ _ c.in-Ok.ensures.changes
 
 pub returns-in_err-own-in-Err-clause-changes : goal.returns-in_err-own-in-Err-clause-changes
 returns-in_err-own-in-Err-clause-changes g c =
-    salvage-refused _ c.args.dag.now c.args.ended c.from_residual.result c.from_residual.ensures.1 _ _ c.in-Err.ensures.begun
+    salvage-refused (g.F.Folder.honest c.args.folder.now) (g.F.Folder.holds c.args.folder.now) c.args.dag.now c.args.ended _ _ c.in_err-own-in-Err.ensures.other
+    c.from_residual.result c.from_residual.ensures.1 _ _ c.in-Err.ensures.begun
 
 pub returns-in_ok-own-in-Err-clause-changes : goal.returns-in_ok-own-in-Err-clause-changes
-returns-in_ok-own-in-Err-clause-changes g c = salvage-left c.args.dag.now c.args.ended c.not_salvaged.result c.not_salvaged.ensures.status _ _ c.in-Err.ensures.begun
+returns-in_ok-own-in-Err-clause-changes g c =
+    salvage-left (g.F.Folder.honest c.args.folder.now) (g.F.Folder.holds c.args.folder.now) c.args.dag.now c.args.ended _ c.in_ok-own-in-Err.own
+    c.in_ok-own-in-Err.ensures.own.0 c.in_ok-own-in-Err.ensures.own.1 c.not_salvaged.result c.not_salvaged.ensures.status _ _ c.in-Err.ensures.begun

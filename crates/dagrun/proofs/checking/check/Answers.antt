@@ -10,7 +10,7 @@ returns-else-any-clause-answered g c = plain_check _ _ c.checked.result c.checke
 
 pub returns-else-any-clause-held : goal.returns-else-any-clause-held
 returns-else-any-clause-held g c = λ honest. plain_check _ _ c.checked.result
-    (at_once c.args.all c.args.form (g.F.Folder.holds c.args.folder.now) c.args.dag.now c.checked.result (c.checked.ensures.held honest))
+    (at_once c.args.all c.args.form _ (g.F.Folder.holds c.args.folder.now) c.args.dag.now c.checked.result (c.checked.ensures.held honest))
 
 pub returns-else-any-clause-refused_held : goal.returns-else-any-clause-refused_held
 returns-else-any-clause-refused_held g c = λ honest. IfErr-weaker c.checked.result _ _ of_held_files (c.checked.ensures.refused_held honest)

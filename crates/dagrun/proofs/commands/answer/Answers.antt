@@ -36,17 +36,25 @@ pub returns-then-not-is_beside-clause-changes : goal.returns-then-not-is_beside-
 returns-then-not-is_beside-clause-changes g c =
     known-of-input (found_where (g.H.Here.Folder.honest c.inputs.result) (g.H.Here.Folder.holds c.inputs.result) (g.H.Here.Folder.has c.inputs.result))
     (found_where (g.H.Host.honest c.args.host.now) (g.H.Host.world c.args.host.now).holds (g.H.Host.world c.args.host.now).has)
+    (rounds_at g.H.Here.Journal.Disk g.H.Here.Rescue.Disk (g.H.Here.Site.own c.inputs.result) (g.H.Here.Folder.honest c.inputs.result) (g.H.Here.Folder.holds c.inputs.result))
+    (rounds_at g.H.Here.Journal.Disk g.H.Here.Rescue.Disk (g.H.Host.own c.args.host.now) (g.H.Host.honest c.args.host.now) (g.H.Host.world c.args.host.now).holds)
     (asked_by c.args.request) (sym c.is_beside.ensures ∙ c.if-not-is_beside.true) c.answer_in.result _ _ c.answer_in.ensures.changes
 
 pub returns-in_err-here-clause-changes : goal.returns-in_err-here-clause-changes
 returns-in_err-here-clause-changes g c =
     nothing-changed _ (found_where (g.H.Host.honest c.args.host.now) (g.H.Host.world c.args.host.now).holds (g.H.Host.world c.args.host.now).has)
+    (rounds_at g.H.Here.Journal.Disk g.H.Here.Rescue.Disk (g.H.Host.own c.args.host.now) (g.H.Host.honest c.args.host.now) (g.H.Host.world c.args.host.now).holds)
     (asked_by c.args.request) c.from_residual.result c.from_residual.ensures.1 _
 
 pub returns-clause-changes : goal.returns-clause-changes
 returns-clause-changes g c =
     known-as (found_where (g.H.Here.Folder.honest c.in_ok-here.here) (g.H.Here.Folder.holds c.in_ok-here.here) (g.H.Here.Folder.has c.in_ok-here.here))
     (found_where (g.H.Host.honest c.args.host.now) (g.H.Host.world c.args.host.now).holds (g.H.Host.world c.args.host.now).has)
+    (rounds_at g.H.Here.Journal.Disk g.H.Here.Rescue.Disk (g.H.Here.Site.own c.in_ok-here.here) (g.H.Here.Folder.honest c.in_ok-here.here) (g.H.Here.Folder.holds c.in_ok-here.here))
+    (rounds_at g.H.Here.Journal.Disk g.H.Here.Rescue.Disk (g.H.Host.own c.args.host.now) (g.H.Host.honest c.args.host.now) (g.H.Host.world c.args.host.now).holds)
     (found-at (g.H.Here.Folder.honest c.in_ok-here.here) (g.H.Host.honest c.args.host.now) (g.H.Here.Folder.holds c.in_ok-here.here) (g.H.Host.world c.args.host.now).holds
     (g.H.Here.Folder.has c.in_ok-here.here) (g.H.Host.world c.args.host.now).has c.in_ok-here.ensures.honest c.in_ok-here.ensures.holds c.in_ok-here.ensures.has)
+    (told-at g.H.Here.Journal.Disk g.H.Here.Rescue.Disk (g.H.Here.Site.own c.in_ok-here.here) (g.H.Host.own c.args.host.now) (g.H.Here.Folder.honest c.in_ok-here.here)
+    (g.H.Host.honest c.args.host.now) (g.H.Here.Folder.holds c.in_ok-here.here) (g.H.Host.world c.args.host.now).holds
+    c.in_ok-here.ensures.own c.in_ok-here.ensures.honest c.in_ok-here.ensures.back c.in_ok-here.ensures.holds)
     (asked_by c.args.request) c.answer_in-2.result _ _ c.answer_in-2.ensures.changes

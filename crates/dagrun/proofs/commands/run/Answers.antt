@@ -29,7 +29,8 @@ returns-in-Ok-clause-changes g c = as_asked c.in-Ok.request c.answer-reply.resul
     (subst (λ (asked : Asked). IsReply (g.H.Host.honest c.args.host.now) (g.H.Host.is_lost c.args.host.now) (g.H.Host.world c.args.host.now)
     (rounds_at g.H.Here.Journal.Disk g.H.Here.Rescue.Disk (g.H.Host.own c.args.host.now) (g.H.Host.honest c.args.host.now) (g.H.Host.world c.args.host.now).holds) asked c.answer-reply.result)
     c.request_at.ensures c.answer-reply.ensures.reply)
-    (subst (λ (asked : Asked). ChangesAs (found_where (g.H.Host.honest c.args.host.now) (g.H.Host.world c.args.host.now).holds (g.H.Host.world c.args.host.now).has) asked
+    (subst (λ (asked : Asked). ChangesAs (found_where (g.H.Host.honest c.args.host.now) (g.H.Host.world c.args.host.now).holds (g.H.Host.world c.args.host.now).has)
+    (rounds_at g.H.Here.Journal.Disk g.H.Here.Rescue.Disk (g.H.Host.own c.args.host.now) (g.H.Host.honest c.args.host.now) (g.H.Host.world c.args.host.now).holds) asked
     c.answer-reply.result c.args.changes.now c.answer-reply.new.changes) c.request_at.ensures c.answer-reply.ensures.changes)
 
 pub returns-in-Err-Refused-clause-exit : goal.returns-in-Err-Refused-clause-exit

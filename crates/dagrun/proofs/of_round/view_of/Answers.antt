@@ -1,6 +1,4 @@
 use Rattle.std.proofs.Common.{rules, ◌≡◌, ℕ, List, Bor, IfOk, IfErr, map, subst}
-use Rattle.dag_main_args.specs.Requests.{shown_by}
-use Rattle.dag_main_check.specs.declared.warnings.Answer.{Answer}
 use Rattle.dag_main_files.specs.Opened.{changing, fixed}
 use Rattle.dag_main_inspect.specs.Asked.{IsAnswer, IsNotAnswered}
 use Rattle.dag_main_inspect.specs.declared.statuses.Form.{Form}
@@ -10,7 +8,7 @@ use Rattle.failure_answers.specs.declared.form.WhyForm.{WhyForm}
 use Rattle.failure_answers.specs.Answered.{IsWhy}
 use Rattle.run_times.specs.declared.form.Form.{Form as TimesForm}
 use Rattle.run_times.specs.Answered.{IsTimes, IsNoTimes}
-use Rattle.dagrun.specs.Answered.{why_form, times_form}
+use Rattle.dagrun.specs.Answered.{why_form}
 use Rattle.dagrun.proofs.Checks.{IsPlain}
 use Rattle.dagrun.proofs.OfRound.{viewed, unviewed}
 use Rattle.dagrun.proofs.of_round.view_of.Goals as goal

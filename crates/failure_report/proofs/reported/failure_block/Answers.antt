@@ -16,6 +16,6 @@ returns-then-node-count g c =
 
 pub returns : goal.returns
 returns g c =
-    line_and_more c.args.run.now.core.now.plan c.args.failure.now c.in-Some.end _ c.spec-spec.result.now c.name.result.now c.course.result.now.retries _ _ _ _
+    line_and_more c.args.run.now.core.now.plan c.args.failure.now c.in-Some.end _ c.spec-spec.result.now c.name.result.now c.course.result.now.retries _ _ _ _ _
     c.in-Some.is (c.spec-spec.ensures.is ∙ ap (λ (p : Plan). node_at p c.args.failure.now.node) c.plan-plan.ensures) c.name.ensures (ap (λ r. r.retries) c.course.ensures) c.new-text.ensures.bytes
-    c.in_ok-push_head.ensures c.in_ok-push_str.ensures.bytes
+    c.in_ok-push_head.ensures c.in_ok-push_str.ensures.bytes (rw c.as_str-2.ensures.value at c.in_ok-block.ensures)

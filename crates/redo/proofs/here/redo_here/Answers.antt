@@ -1,6 +1,7 @@
-use Rattle.std.proofs.Common.{ℕ, List, ◌∙◌, ap, refl, sym, subst}
+use Rattle.std.proofs.Common.{ℕ, List, Bor, ◌∙◌, map, ap, refl, sym, subst}
 use Rattle.std.proofs.lemmas.Result.{IfOk-weaker}
 use Rattle.dag_main_check.specs.declared.fault.RunFault.TheVariants.{Memory}
+use Rattle.dag_main_files.specs.Folder.{any_paths, these_paths}
 use Rattle.dag_main_files.specs.Opened.{changing, fixed}
 use Rattle.dag_main_files.proofs.RunFaults.{by-fault, memory-alone}
 use Rattle.redo.proofs.Changes.{none-told, redo-unchanged, redone-under-lock}
@@ -64,21 +65,71 @@ returns-then-not-is_there-clause-refused_held g c = λ honest.
     memory-alone (IsNoRedo (fixed (g.F.Folder.holds c.args.folder.now)) c.args.place.now.top.now) (kept_out _ looking_had_no_memory) c.no_round.result c.no_round.ensures.err
 
 pub returns-in_err-journal-clause-changes : goal.returns-in_err-journal-clause-changes
-returns-in_err-journal-clause-changes g c = redo-unchanged _ c.args.place.now.top.now c.from_residual.result c.from_residual.ensures.1 c.args.changes.now c.args.changes.now refl
+returns-in_err-journal-clause-changes g c =
+    redo-unchanged changing any_paths c.args.place.now.top.now
+    (map (λ (n : Bor (List ℕ)). n.now) c.args.names.now) c.args.only _ c.from_residual.result c.from_residual.ensures.1
+    c.args.changes.now c.args.changes.now refl
 
 pub returns-in_err-is_there-clause-changes : goal.returns-in_err-is_there-clause-changes
-returns-in_err-is_there-clause-changes g c = redo-unchanged _ c.args.place.now.top.now c.from_residual-in_err-is_there.result c.from_residual-in_err-is_there.ensures.1 c.args.changes.now c.args.changes.now refl
+returns-in_err-is_there-clause-changes g c =
+    redo-unchanged changing any_paths c.args.place.now.top.now
+    (map (λ (n : Bor (List ℕ)). n.now) c.args.names.now) c.args.only _ c.from_residual-in_err-is_there.result c.from_residual-in_err-is_there.ensures.1
+    c.args.changes.now c.args.changes.now refl
 
 pub returns-in_err-has_own_files-clause-changes : goal.returns-in_err-has_own_files-clause-changes
-returns-in_err-has_own_files-clause-changes g c = redo-unchanged _ c.args.place.now.top.now c.from_residual-in_err-has_own_files.result c.from_residual-in_err-has_own_files.ensures.1 c.args.changes.now c.args.changes.now refl
+returns-in_err-has_own_files-clause-changes g c =
+    redo-unchanged changing any_paths c.args.place.now.top.now
+    (map (λ (n : Bor (List ℕ)). n.now) c.args.names.now) c.args.only _ c.from_residual-in_err-has_own_files.result c.from_residual-in_err-has_own_files.ensures.1
+    c.args.changes.now c.args.changes.now refl
 
 pub returns-in_err-lock-clause-changes : goal.returns-in_err-lock-clause-changes
-returns-in_err-lock-clause-changes g c = redo-unchanged _ c.args.place.now.top.now c.from_residual-in_err-lock.result c.from_residual-in_err-lock.ensures.1 c.args.changes.now c.lock.new.changes c.in_err-lock.ensures.no_change
+returns-in_err-lock-clause-changes g c =
+    redo-unchanged changing any_paths c.args.place.now.top.now
+    (map (λ (n : Bor (List ℕ)). n.now) c.args.names.now) c.args.only _ c.from_residual-in_err-lock.result c.from_residual-in_err-lock.ensures.1
+    c.args.changes.now c.lock.new.changes c.in_err-lock.ensures.no_change
 
 pub returns-then-not-is_there-clause-changes : goal.returns-then-not-is_there-clause-changes
-returns-then-not-is_there-clause-changes g c = none-told _ _ c.args.place.now.top.now c.no_round.result c.no_round.ensures.answer c.args.changes.now
+returns-then-not-is_there-clause-changes g c =
+    none-told changing any_paths c.args.place.now.top.now
+    (map (λ (n : Bor (List ℕ)). n.now) c.args.names.now) c.args.only _ c.no_round.result c.no_round.ensures.answer c.args.changes.now
 
 pub returns-clause-changes : goal.returns-clause-changes
 returns-clause-changes g c =
-    redone-under-lock c.args.place.now.top.now c.redo_locked-answer.result c.args.changes.now c.lock.new.changes c.redo_locked-answer.new.changes c.unlock.new.changes
-    c.in_ok-lock.ensures.changes c.redo_locked-answer.ensures.changes c.unlock.ensures
+    redone-under-lock changing any_paths c.args.place.now.top.now
+    (map (λ (n : Bor (List ℕ)). n.now) c.args.names.now) c.args.only c.redo_locked-answer.result c.args.changes.now c.lock.new.changes
+    c.redo_locked-answer.new.changes c.unlock.new.changes c.in_ok-lock.ensures.changes c.redo_locked-answer.ensures.changes c.unlock.ensures
+
+pub returns-in_err-journal-clause-changes_held : goal.returns-in_err-journal-clause-changes_held
+returns-in_err-journal-clause-changes_held g c = λ honest.
+    redo-unchanged (fixed (g.F.Folder.holds c.args.folder.now)) (these_paths (g.F.Folder.has c.args.folder.now)) c.args.place.now.top.now
+    (map (λ (n : Bor (List ℕ)). n.now) c.args.names.now) c.args.only _ c.from_residual.result c.from_residual.ensures.1
+    c.args.changes.now c.args.changes.now refl
+
+pub returns-in_err-is_there-clause-changes_held : goal.returns-in_err-is_there-clause-changes_held
+returns-in_err-is_there-clause-changes_held g c = λ honest.
+    redo-unchanged (fixed (g.F.Folder.holds c.args.folder.now)) (these_paths (g.F.Folder.has c.args.folder.now)) c.args.place.now.top.now
+    (map (λ (n : Bor (List ℕ)). n.now) c.args.names.now) c.args.only _ c.from_residual-in_err-is_there.result c.from_residual-in_err-is_there.ensures.1
+    c.args.changes.now c.args.changes.now refl
+
+pub returns-in_err-has_own_files-clause-changes_held : goal.returns-in_err-has_own_files-clause-changes_held
+returns-in_err-has_own_files-clause-changes_held g c = λ honest.
+    redo-unchanged (fixed (g.F.Folder.holds c.args.folder.now)) (these_paths (g.F.Folder.has c.args.folder.now)) c.args.place.now.top.now
+    (map (λ (n : Bor (List ℕ)). n.now) c.args.names.now) c.args.only _ c.from_residual-in_err-has_own_files.result c.from_residual-in_err-has_own_files.ensures.1
+    c.args.changes.now c.args.changes.now refl
+
+pub returns-in_err-lock-clause-changes_held : goal.returns-in_err-lock-clause-changes_held
+returns-in_err-lock-clause-changes_held g c = λ honest.
+    redo-unchanged (fixed (g.F.Folder.holds c.args.folder.now)) (these_paths (g.F.Folder.has c.args.folder.now)) c.args.place.now.top.now
+    (map (λ (n : Bor (List ℕ)). n.now) c.args.names.now) c.args.only _ c.from_residual-in_err-lock.result c.from_residual-in_err-lock.ensures.1
+    c.args.changes.now c.lock.new.changes c.in_err-lock.ensures.no_change
+
+pub returns-then-not-is_there-clause-changes_held : goal.returns-then-not-is_there-clause-changes_held
+returns-then-not-is_there-clause-changes_held g c = λ honest.
+    none-told (fixed (g.F.Folder.holds c.args.folder.now)) (these_paths (g.F.Folder.has c.args.folder.now)) c.args.place.now.top.now
+    (map (λ (n : Bor (List ℕ)). n.now) c.args.names.now) c.args.only _ c.no_round.result c.no_round.ensures.answer c.args.changes.now
+
+pub returns-clause-changes_held : goal.returns-clause-changes_held
+returns-clause-changes_held g c = λ honest.
+    redone-under-lock (fixed (g.F.Folder.holds c.args.folder.now)) (these_paths (g.F.Folder.has c.args.folder.now)) c.args.place.now.top.now
+    (map (λ (n : Bor (List ℕ)). n.now) c.args.names.now) c.args.only c.redo_locked-answer.result c.args.changes.now c.lock.new.changes
+    c.redo_locked-answer.new.changes c.unlock.new.changes c.in_ok-lock.ensures.changes (c.redo_locked-answer.ensures.changes_held honest) c.unlock.ensures

@@ -1,8 +1,10 @@
-use Rattle.std.proofs.Common.{◌≡◌, Bool, ◌++◌, refl, sym, subst, string_bytes}
+use Rattle.std.proofs.Common.{◌≡◌, ◌∙◌, ℕ, Bool, ◌++◌, refl, sym, subst, string_bytes}
 use Rattle.dag_main_files.specs.Changes.{writes_rescue}
-use Rattle.dag_main_files.proofs.Makes.{begun-none, begun-after, made-after}
-use Rattle.redo.specs.Changes.{clears_cut_short, writes_redone, redone}
-use Rattle.redo.proofs.Changes.{redone-refused, redone-unchanged}
+use Rattle.dag_main_files.specs.Folder.{any_paths, these_paths}
+use Rattle.dag_main_files.proofs.Makes.{made-after}
+use Rattle.redo.specs.Numbers.{IsNextNumber}
+use Rattle.redo.specs.Changes.{clears_cut_short, writes_redone, marks_written}
+use Rattle.redo.proofs.Changes.{marks-unwritten, marks-alone}
 use Rattle.dag_main_files.proofs.RunFaults.{by-fault}
 use Rattle.redo.specs.Answered.{IsNotWritten, unnumbered, numbered_refused, journal_stays, writing_had_no_memory}
 use Rattle.redo.proofs.here.write_marked.Goals as goal
@@ -26,7 +28,7 @@ returns-in_err-write_rescue-clause-refused g c =
 
 pub returns-in_err-clear_cut_short-clause-refused : goal.returns-in_err-clear_cut_short-clause-refused
 returns-in_err-clear_cut_short-clause-refused g c =
-    by-fault (IsNotWritten c.args.place.now.top.now c.args.journal.now) c.in_err-clear_cut_short.field-0.0 (journal_stays _ c.in_err-clear_cut_short.ensures.refused)
+    by-fault (IsNotWritten c.args.place.now.top.now c.args.journal.now) c.in_err-clear_cut_short.field-0.0 (journal_stays _ (sym c.in_ok-next.ensures.cut_short ∙ c.in_err-clear_cut_short.ensures.was_cut_short) c.in_err-clear_cut_short.ensures.refused)
     c.from_residual-in_err-clear_cut_short.result c.from_residual-in_err-clear_cut_short.ensures.1
 
 pub returns-clause-held : goal.returns-clause-held
@@ -39,53 +41,46 @@ returns-clause-held g c = λ honest. record {
 }
 
 pub returns-in_err-next-clause-changes : goal.returns-in_err-next-clause-changes
-returns-in_err-next-clause-changes g c = redone-unchanged _ c.args.place.now.top.now c.from_residual.result c.from_residual.ensures.1 c.args.changes.now
+returns-in_err-next-clause-changes g c =
+    let IsNumber = λ (number : ℕ). IsNextNumber any_paths c.args.place.now.top.now c.args.journal.now number
+    × (g.F.Folder.honest c.args.folder.now → IsNextNumber (these_paths (g.F.Folder.has c.args.folder.now)) c.args.place.now.top.now c.args.journal.now number) in
+    marks-unwritten IsNumber c.args.place.now.top.now c.args.journal.now (string_bytes c.args.marked.redone.text) c.args.marked.redone.done c.args.marked.total _
+    c.from_residual.result c.from_residual.ensures.1 c.args.changes.now c.args.changes.now refl
 
 pub returns-in_err-text-clause-changes : goal.returns-in_err-text-clause-changes
 returns-in_err-text-clause-changes g c =
-    redone-unchanged _ c.args.place.now.top.now c.from_residual-in_err-text.result c.from_residual-in_err-text.ensures.1 c.args.changes.now
+    let IsNumber = λ (number : ℕ). IsNextNumber any_paths c.args.place.now.top.now c.args.journal.now number
+    × (g.F.Folder.honest c.args.folder.now → IsNextNumber (these_paths (g.F.Folder.has c.args.folder.now)) c.args.place.now.top.now c.args.journal.now number) in
+    marks-unwritten IsNumber c.args.place.now.top.now c.args.journal.now (string_bytes c.args.marked.redone.text) c.args.marked.redone.done c.args.marked.total _
+    c.from_residual-in_err-text.result c.from_residual-in_err-text.ensures.1 c.args.changes.now c.args.changes.now refl
 
 pub returns-in_err-write_rescue-clause-changes : goal.returns-in_err-write_rescue-clause-changes
 returns-in_err-write_rescue-clause-changes g c =
-    let top = c.args.place.now.top.now in
-    let number = c.in_ok-next.next.number in
-    let text = string_bytes c.args.marked.redone.text in
-    let cut = c.in_ok-next.next.cut_short in
-    redone-refused _ top c.from_residual-in_err-write_rescue.result c.from_residual-in_err-write_rescue.ensures.1 number text cut c.args.changes.now c.write_rescue.new.changes
-    (begun-none (writes_redone top number text cut) c.args.changes.now c.write_rescue.new.changes c.in_err-write_rescue.ensures.no_change)
+    let IsNumber = λ (number : ℕ). IsNextNumber any_paths c.args.place.now.top.now c.args.journal.now number
+    × (g.F.Folder.honest c.args.folder.now → IsNextNumber (these_paths (g.F.Folder.has c.args.folder.now)) c.args.place.now.top.now c.args.journal.now number) in
+    marks-unwritten IsNumber c.args.place.now.top.now c.args.journal.now (string_bytes c.args.marked.redone.text) c.args.marked.redone.done c.args.marked.total _
+    c.from_residual-in_err-write_rescue.result c.from_residual-in_err-write_rescue.ensures.1 c.args.changes.now c.write_rescue.new.changes c.in_err-write_rescue.ensures.no_change
 
 pub returns-in_err-clear_cut_short-clause-changes : goal.returns-in_err-clear_cut_short-clause-changes
 returns-in_err-clear_cut_short-clause-changes g c =
-    let top = c.args.place.now.top.now in
-    let number = c.in_ok-next.next.number in
-    let text = string_bytes c.args.marked.redone.text in
-    let cut = c.in_ok-next.next.cut_short in
-    redone-refused _ top c.from_residual-in_err-clear_cut_short.result c.from_residual-in_err-clear_cut_short.ensures.1 number text cut c.args.changes.now
-    c.clear_cut_short.new.changes
-    (begun-after (writes_rescue top number text) (clears_cut_short cut top) c.args.changes.now c.write_rescue.new.changes c.clear_cut_short.new.changes
-    c.in_ok-write_rescue.ensures.changes c.in_err-clear_cut_short.ensures.changes)
+    let next = c.in_ok-next.next in
+    let IsNumber = λ (number : ℕ). IsNextNumber any_paths c.args.place.now.top.now c.args.journal.now number
+    × (g.F.Folder.honest c.args.folder.now → IsNextNumber (these_paths (g.F.Folder.has c.args.folder.now)) c.args.place.now.top.now c.args.journal.now number) in
+    marks-alone IsNumber c.args.place.now.top.now c.args.journal.now (string_bytes c.args.marked.redone.text) c.args.marked.redone.done c.args.marked.total
+    c.in_err-clear_cut_short.field-0.0 c.from_residual-in_err-clear_cut_short.result c.from_residual-in_err-clear_cut_short.ensures.1
+    c.in_err-clear_cut_short.ensures.refused next.number (c.in_ok-next.ensures.next, c.in_ok-next.ensures.held) next.cut_short c.in_ok-next.ensures.cut_short
+    c.in_err-clear_cut_short.ensures.was_cut_short c.args.changes.now c.write_rescue.new.changes c.clear_cut_short.new.changes c.in_ok-write_rescue.ensures.changes
+    c.in_err-clear_cut_short.ensures.changes
 
 pub returns-clause-changes : goal.returns-clause-changes
 returns-clause-changes g c =
     let top = c.args.place.now.top.now in
-    let number = c.in_ok-next.next.number in
+    let next = c.in_ok-next.next in
     let text = string_bytes c.args.marked.redone.text in
-    let cut = c.in_ok-next.next.cut_short in
-    redone _ number text cut c.args.changes.now c.clear_cut_short.new.changes refl
-    (made-after (writes_rescue top number text) (clears_cut_short cut top) c.args.changes.now c.write_rescue.new.changes c.clear_cut_short.new.changes
-    c.in_ok-write_rescue.ensures.changes c.in_ok-clear_cut_short.ensures.changes)
-
-pub returns-clause-exact : goal.returns-clause-exact
-returns-clause-exact g c =
-    let top = c.args.place.now.top.now in
-    let number = c.in_ok-next.next.number in
-    let text = string_bytes c.args.marked.redone.text in
-    let made = made-after (writes_rescue top number text) (clears_cut_short c.in_ok-next.next.cut_short top) c.args.changes.now c.write_rescue.new.changes
-    c.clear_cut_short.new.changes c.in_ok-write_rescue.ensures.changes c.in_ok-clear_cut_short.ensures.changes in (
-      number,
-      c.in_ok-next.ensures.next,
-      subst (λ (b : Bool). c.clear_cut_short.new.changes ≡ c.args.changes.now ++ writes_redone top number text b) c.in_ok-next.ensures.cut_short made,
-    )
+    let made = made-after (writes_rescue top next.number text) (clears_cut_short next.cut_short top) c.args.changes.now c.write_rescue.new.changes
+    c.clear_cut_short.new.changes c.in_ok-write_rescue.ensures.changes c.in_ok-clear_cut_short.ensures.changes in
+    marks_written _ next.number c.args.changes.now c.clear_cut_short.new.changes (c.in_ok-next.ensures.next, c.in_ok-next.ensures.held) refl c.in_ok-text.ensures.text
+    (subst (λ (b : Bool). c.clear_cut_short.new.changes ≡ c.args.changes.now ++ writes_redone top next.number text b) c.in_ok-next.ensures.cut_short made)
 
 pub returns-clause-report : goal.returns-clause-report
 returns-clause-report g c = record {

@@ -1,6 +1,6 @@
 use Rattle.std.proofs.Common.{◌≤◌, ◌∙◌, Option, sym, subst}
 use Rattle.std.proofs.lemmas.Result.{IfOk-weaker}
-use Rattle.event_journal_log.specs.declared.journal.Peek.{Peek}
+use Rattle.event_journal_log.specs.declared.decoded.Peek.{Peek}
 use Rattle.event_journal_log.specs.Image.{replay_of}
 use Rattle.event_journal_log.specs.Peeks.{ReadsPeek}
 use Rattle.dag_main_check.proofs.Refusals.{weaker}

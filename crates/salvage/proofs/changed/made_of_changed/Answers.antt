@@ -3,7 +3,7 @@ use Rattle.std.specs.Prelude.{IfSome}
 use Rattle.run_plan.specs.Plan.{Plan}
 use Rattle.dag_main_check.specs.declared.fault.RunFault.TheVariants.{Memory}
 use Rattle.dag_main_check.specs.Warnings.{warning_lines}
-use Rattle.dag_main_files.specs.Beside.{refusing_had_no_memory}
+use Rattle.dag_main_files.specs.Beside.{refusing_had_no_memory, refusing_unheld_had_no_memory}
 use Rattle.round_inputs.specs.Begun.{begun_name_of}
 use Rattle.splices_flat.specs.FileSet.{bytes_of}
 use Rattle.salvage.specs.Carried.{IsBegunPlan, IsCarriedOver, gone_lines}
@@ -16,7 +16,7 @@ use Rattle.salvage.proofs.changed.made_of_changed.Goals as goal
 pub returns-in_err-old-clause-refused : goal.returns-in_err-old-clause-refused
 returns-in_err-old-clause-refused g c =
     told-as (IsNotCarried (held_files_if (g.F.Folder.honest c.args.folder.now) (g.F.Folder.holds c.args.folder.now) (g.F.Folder.has c.args.folder.now) c.args.top.now) c.args.round.now.always_post (bytes_of c.args.files.now) c.args.top.now c.args.round.now.digest c.args.round.now.journal.items c.args.other)
-    (Refused c.in_err-old.field-0.0) (kept_refused _ c.in_err-old.ensures.refused) c.from_residual.result c.from_residual.ensures.1
+    (Refused c.in_err-old.field-0.0) (kept_refused _ (c.in_err-old.ensures.refused, c.in_err-old.ensures.unheld)) c.from_residual.result c.from_residual.ensures.1
 
 pub returns-in_default-clause-refused : goal.returns-in_default-clause-refused
 returns-in_default-clause-refused g c = not_kept
@@ -29,7 +29,7 @@ returns-in_err-graph-clause-refused g c =
 pub returns-in_err-warnings-clause-refused : goal.returns-in_err-warnings-clause-refused
 returns-in_err-warnings-clause-refused g c =
     told-as (IsNotCarried (held_files_if (g.F.Folder.honest c.args.folder.now) (g.F.Folder.holds c.args.folder.now) (g.F.Folder.has c.args.folder.now) c.args.top.now) c.args.round.now.always_post (bytes_of c.args.files.now) c.args.top.now c.args.round.now.digest c.args.round.now.journal.items c.args.other)
-    (Refused Memory) (kept_refused _ refusing_had_no_memory) c.from_residual-in_err-warnings.result c.from_residual-in_err-warnings.ensures.1
+    (Refused Memory) (kept_refused _ (refusing_had_no_memory, λ honest. refusing_unheld_had_no_memory)) c.from_residual-in_err-warnings.result c.from_residual-in_err-warnings.ensures.1
 
 -- the plan of what is kept
 module _ (IsHeld : List ℕ → Type 0) (always_post : Bool) (path digest : List ℕ) where

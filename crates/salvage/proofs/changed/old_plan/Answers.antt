@@ -2,7 +2,7 @@ use Rattle.std.proofs.Common.{◌≡◌, ◌∙◌, List, ℕ, Option, Some, ap,
 use Rattle.std.specs.Prelude.{IfSome}
 use Rattle.splices_flat.specs.FileSet.{bytes_of, entries_of}
 use Rattle.dag_main_check.specs.Planned.{IsPlanWith}
-use Rattle.dag_main_files.specs.Beside.{IsRefusalOf, refusing_had_no_memory}
+use Rattle.dag_main_files.specs.Beside.{IsRefusalOf, refusing_had_no_memory, IsRefusalHeld, refusing_unheld_had_no_memory}
 use Rattle.dag_main_files.proofs.RunFaults.{by-fault}
 use Rattle.round_inputs.specs.Begun.{begun_name_of, begun_text_of, rescue_kept}
 use Rattle.round_inputs.specs.declared.begun.Begun.{Begun}
@@ -11,6 +11,14 @@ use Rattle.salvage.proofs.changed.old_plan.Goals as goal
 pub returns-in_err-begun-clause-refused : goal.returns-in_err-begun-clause-refused
 returns-in_err-begun-clause-refused g c =
     by-fault (IsRefusalOf (begun_name_of c.args.top.now)) c.in_err-begun.field-0.0 c.in_err-begun.ensures.refused c.from_residual.result c.from_residual.ensures.1
+
+pub returns-in_err-begun-clause-unheld : goal.returns-in_err-begun-clause-unheld
+returns-in_err-begun-clause-unheld g c = λ honest.
+    by-fault (IsRefusalHeld (g.F.Folder.holds c.args.folder.now) (begun_name_of c.args.top.now)) c.in_err-begun.field-0.0 (c.in_err-begun.ensures.unheld honest)
+    c.from_residual.result c.from_residual.ensures.1
+
+pub returns-in-Err-Memory-clause-unheld : goal.returns-in-Err-Memory-clause-unheld
+returns-in-Err-Memory-clause-unheld g c = λ honest. refusing_unheld_had_no_memory
 
 pub returns-clause-plan : goal.returns-clause-plan
 returns-clause-plan g c =

@@ -8,7 +8,7 @@ use Rattle.salvage.proofs.here.changes_since.Goals as goal
 pub loop-file-init : goal.loop-file-init
 loop-file-init g c = (
   subst (AreChanges any_change []) (sym c.new-text.ensures.bytes) no_files,
-  λ honest. subst (AreChanges (IsChangeFrom (g.F.Folder.holds c.args.folder.now)) []) (sym c.new-text.ensures.bytes) no_files,
+  λ honest. subst (AreChanges (IsChangeFrom (g.F.Folder.holds c.args.folder.now) (g.F.Folder.has c.args.folder.now)) []) (sym c.new-text.ensures.bytes) no_files,
 )
 
 pub loop-file-preserved : goal.loop-file-preserved
@@ -18,7 +18,7 @@ loop-file-preserved g c =
           (string_bytes c.loop-file.text) (string_bytes c.push_change.new.text) c.as_str.result.now c.file-item.result c.in_ok-change.change
           less c.file-item.is c.loop-file.invariant.0 tt c.as_str.ensures c.in_ok-push_change.ensures,
       λ honest.
-          more-changes (IsChangeFrom (g.F.Folder.holds c.args.folder.now)) c.args.inputs.now.files.items c.deref-file-items.result.now c.deref-file-items.ensures.value
+          more-changes (IsChangeFrom (g.F.Folder.holds c.args.folder.now) (g.F.Folder.has c.args.folder.now)) c.args.inputs.now.files.items c.deref-file-items.result.now c.deref-file-items.ensures.value
           c.loop-file.file-index (string_bytes c.loop-file.text) (string_bytes c.push_change.new.text) c.as_str.result.now c.file-item.result c.in_ok-change.change
           less c.file-item.is (c.loop-file.invariant.1 honest) (c.in_ok-change.ensures.held honest) c.as_str.ensures c.in_ok-push_change.ensures,
     )

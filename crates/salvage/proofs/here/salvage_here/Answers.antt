@@ -1,13 +1,13 @@
-use Rattle.std.proofs.Common.{◌∙◌, inl, inr, List, ℕ, ap, refl, sym, subst}
+use Rattle.std.proofs.Common.{◌∙◌, inr, List, ℕ, ap, refl, sym, subst}
 use Rattle.std.proofs.lemmas.Result.{IfOk-weaker}
 use Rattle.dag_main_check.specs.declared.fault.RunFault.TheVariants.{Memory}
 use Rattle.dag_main_check.specs.declared.fault.RunFault.{RunFault}
 use Rattle.salvage.specs.declared.fault.SalvageFault.TheVariants.{Refused, NoJournal}
 use Rattle.salvage.specs.Refused.{IsSalvageFault, no_round, has_no_journal, file_in_the_way, another_is_at_work, making_had_no_memory}
 use Rattle.salvage.specs.Sight.{held_files_if}
-use Rattle.salvage.specs.Changes.{writes_salvage, SalvagesInPart}
-use Rattle.salvage.proofs.SalvageChanges.{HasBegun, on-refusal, on-refusal-weaker, under-its-lock, begun-under-lock}
-use Rattle.salvage.proofs.Refusals.{told-as}
+use Rattle.salvage.specs.Changes.{writes_salvage, IsRescueMadeIf, LeavesSalvage, salvage_not_begun}
+use Rattle.salvage.proofs.SalvageChanges.{under-its-lock, salvage-not-begun, broken-off-under-lock}
+use Rattle.salvage.proofs.Refusals.{told-as, weaker-as}
 use Rattle.salvage.proofs.here.salvage_here.Goals as goal
 
 pub returns-in_err-journal-clause-refused : goal.returns-in_err-journal-clause-refused
@@ -37,22 +37,26 @@ returns-in_err-lock-clause-refused g c =
 
 pub returns-in_err-journal-clause-begun : goal.returns-in_err-journal-clause-begun
 returns-in_err-journal-clause-begun g c =
-    on-refusal _ (SalvagesInPart c.args.place.now.top.now c.args.changes.now c.args.changes.now) c.from_residual.result c.from_residual.ensures.1 (inl refl)
+    salvage-not-begun (IsRescueMadeIf (g.F.Folder.honest c.args.folder.now) c.args.too (g.F.Folder.holds c.args.folder.now) c.args.place.now.top.now) c.args.place.now.top.now _ c.from_residual.result
+    c.from_residual.ensures.1 c.args.changes.now c.args.changes.now refl
 
 pub returns-in_err-is_there-clause-begun : goal.returns-in_err-is_there-clause-begun
 returns-in_err-is_there-clause-begun g c =
-    on-refusal _ (SalvagesInPart c.args.place.now.top.now c.args.changes.now c.args.changes.now) c.from_residual-in_err-is_there.result c.from_residual-in_err-is_there.ensures.1 (inl refl)
+    salvage-not-begun (IsRescueMadeIf (g.F.Folder.honest c.args.folder.now) c.args.too (g.F.Folder.holds c.args.folder.now) c.args.place.now.top.now) c.args.place.now.top.now _ c.from_residual-in_err-is_there.result
+    c.from_residual-in_err-is_there.ensures.1 c.args.changes.now c.args.changes.now refl
 
 pub returns-in_err-has_own_files-clause-begun : goal.returns-in_err-has_own_files-clause-begun
 returns-in_err-has_own_files-clause-begun g c =
-    on-refusal _ (SalvagesInPart c.args.place.now.top.now c.args.changes.now c.args.changes.now) c.from_residual-in_err-has_own_files.result c.from_residual-in_err-has_own_files.ensures.1 (inl refl)
+    salvage-not-begun (IsRescueMadeIf (g.F.Folder.honest c.args.folder.now) c.args.too (g.F.Folder.holds c.args.folder.now) c.args.place.now.top.now) c.args.place.now.top.now _ c.from_residual-in_err-has_own_files.result
+    c.from_residual-in_err-has_own_files.ensures.1 c.args.changes.now c.args.changes.now refl
 
 pub returns-in_err-lock-clause-begun : goal.returns-in_err-lock-clause-begun
 returns-in_err-lock-clause-begun g c =
-    on-refusal _ (SalvagesInPart c.args.place.now.top.now c.args.changes.now c.lock.new.changes) c.from_residual-in_err-lock.result c.from_residual-in_err-lock.ensures.1 (inl c.in_err-lock.ensures.no_change)
+    salvage-not-begun (IsRescueMadeIf (g.F.Folder.honest c.args.folder.now) c.args.too (g.F.Folder.holds c.args.folder.now) c.args.place.now.top.now) c.args.place.now.top.now _ c.from_residual-in_err-lock.result
+    c.from_residual-in_err-lock.ensures.1 c.args.changes.now c.lock.new.changes c.in_err-lock.ensures.no_change
 
 pub returns-then-not-branch-clause-begun : goal.returns-then-not-branch-clause-begun
-returns-then-not-branch-clause-begun g c = inl refl
+returns-then-not-branch-clause-begun g c = salvage_not_begun refl
 
 pub returns-clause-changes : goal.returns-clause-changes
 returns-clause-changes g c =
@@ -69,6 +73,7 @@ returns-clause-changes g c =
 pub returns-clause-begun : goal.returns-clause-begun
 returns-clause-begun g c =
     let top = c.args.place.now.top.now in
-    on-refusal-weaker (HasBegun top c.lock.new.changes c.salvage_locked-answer.new.changes) (SalvagesInPart top c.args.changes.now c.unlock.new.changes)
-    c.salvage_locked-answer.result c.salvage_locked-answer.ensures.begun
-    (λ begun. begun-under-lock top c.args.changes.now c.lock.new.changes c.salvage_locked-answer.new.changes c.unlock.new.changes c.in_ok-lock.ensures.changes begun c.unlock.ensures)
+    let IsMade = IsRescueMadeIf (g.F.Folder.honest c.args.folder.now) c.args.too (g.F.Folder.holds c.args.folder.now) top in
+    weaker-as (λ fault. LeavesSalvage IsMade top fault c.args.changes.now c.unlock.new.changes) c.salvage_locked-answer.result c.salvage_locked-answer.ensures.begun
+    (λ fault part. broken-off-under-lock IsMade top fault c.args.changes.now c.lock.new.changes c.salvage_locked-answer.new.changes c.unlock.new.changes
+    c.in_ok-lock.ensures.changes part c.unlock.ensures)

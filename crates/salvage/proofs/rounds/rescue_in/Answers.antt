@@ -4,7 +4,8 @@ use Rattle.std.specs.Option.{option_map}
 use Rattle.salvage.specs.Round.{sum_in}
 use Rattle.salvage.specs.declared.fault.SalvageFault.TheVariants.{Refused, Changed}
 use Rattle.salvage.specs.Others.{IsOtherRescue, IsOtherFile, rescue_missing, rescue_changed, rescue_refused}
-use Rattle.dag_main_files.specs.Beside.{IsRefusalOf, refusing_had_no_memory}
+use Rattle.dag_main_check.specs.declared.fault.RunFault.{RunFault}
+use Rattle.dag_main_files.specs.Beside.{IsRefusalOf, refusing_had_no_memory, IsRefusalHeld, refusing_unheld_had_no_memory}
 use Rattle.rescue_file.specs.Numbered.{rescue_name_of}
 use Rattle.dag_main_files.proofs.Held.{rescue-held}
 use Rattle.salvage.specs.Sight.{held_files_if}
@@ -27,12 +28,19 @@ returns-in-None-2-clause-same g c =
 pub returns-in_err-path-clause-refused : goal.returns-in_err-path-clause-refused
 returns-in_err-path-clause-refused g c =
     told-as (IsOtherRescue (held_files_if (g.F.Folder.honest c.args.folder.now) (g.F.Folder.holds c.args.folder.now) (g.F.Folder.has c.args.folder.now) c.args.top.now) c.args.inputs.now.files.items c.args.top.now c.args.used) (Refused c.in_err-path.field-0.0)
-    (rescue_refused _ (subst (IsRefusalOf (rescue_name_of c.args.top.now c.args.used)) (sym c.in_err-path.ensures.err) refusing_had_no_memory)) c.from_residual.result c.from_residual.ensures.1
+    (rescue_refused _ (
+      subst (IsRefusalOf (rescue_name_of c.args.top.now c.args.used)) (sym c.in_err-path.ensures.err) refusing_had_no_memory,
+      λ honest. subst (λ (f : RunFault). IsRefusalHeld (g.F.Folder.holds c.args.folder.now) (rescue_name_of c.args.top.now c.args.used) f) (sym c.in_err-path.ensures.err)
+          refusing_unheld_had_no_memory,
+    )) c.from_residual.result c.from_residual.ensures.1
 
 pub returns-in_err-bytes-clause-refused : goal.returns-in_err-bytes-clause-refused
 returns-in_err-bytes-clause-refused g c =
-    told-as (IsOtherRescue (held_files_if (g.F.Folder.honest c.args.folder.now) (g.F.Folder.holds c.args.folder.now) (g.F.Folder.has c.args.folder.now) c.args.top.now) c.args.inputs.now.files.items c.args.top.now c.args.used) (Refused c.in_err-bytes.field-0.0) (rescue_refused _
-    (subst (λ (p : List ℕ). IsRefusalOf p c.in_err-bytes.field-0.0) (c.as_str.ensures ∙ c.in_ok-path.ensures.name) c.in_err-bytes.ensures.named))
+    told-as (IsOtherRescue (held_files_if (g.F.Folder.honest c.args.folder.now) (g.F.Folder.holds c.args.folder.now) (g.F.Folder.has c.args.folder.now) c.args.top.now) c.args.inputs.now.files.items c.args.top.now c.args.used) (Refused c.in_err-bytes.field-0.0) (rescue_refused _ (
+      subst (λ (p : List ℕ). IsRefusalOf p c.in_err-bytes.field-0.0) (c.as_str.ensures ∙ c.in_ok-path.ensures.name) c.in_err-bytes.ensures.named,
+      λ honest. subst (λ (p : List ℕ). IsRefusalHeld (g.F.Folder.holds c.args.folder.now) p c.in_err-bytes.field-0.0) (c.as_str.ensures ∙ c.in_ok-path.ensures.name)
+          (c.in_err-bytes.ensures.unheld honest),
+    ))
     c.from_residual-in_err-bytes.result c.from_residual-in_err-bytes.ensures.1
 
 pub returns-in_err-check_file-in-Some-clause-refused : goal.returns-in_err-check_file-in-Some-clause-refused

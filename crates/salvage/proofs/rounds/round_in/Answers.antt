@@ -1,6 +1,6 @@
 use Rattle.std.proofs.Common.{◌≡◌, ◌≤◌, ℕ, List, Option, Some, None, length, sym, subst, ◌∙◌}
 use Rattle.std.specs.Prelude.{slice_range}
-use Rattle.event_journal_log.specs.declared.journal.Peek.{Peek}
+use Rattle.event_journal_log.specs.declared.decoded.Peek.{Peek}
 use Rattle.event_journal_log.specs.Image.{replay_of}
 use Rattle.event_journal_log.specs.Peeks.{ReadsPeek}
 use Rattle.salvage.specs.declared.fault.SalvageFault.TheVariants.{Refused}

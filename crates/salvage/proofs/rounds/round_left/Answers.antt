@@ -1,7 +1,7 @@
 use Rattle.std.proofs.Common.{◌∙◌, inl, List, ℕ, Some, ap, sym, subst}
 use Rattle.std.specs.Option.{option_map}
 use Rattle.dag_main_check.specs.declared.fault.RunFault.TheVariants.{Memory}
-use Rattle.dag_main_files.specs.Beside.{IsRefusalOf, refusing_had_no_memory}
+use Rattle.dag_main_files.specs.Beside.{IsRefusalOf, refusing_had_no_memory, IsRefusalHeld, refusing_unheld_had_no_memory}
 use Rattle.salvage.specs.declared.fault.SalvageFault.TheVariants.{Refused, NoJournal}
 use Rattle.salvage.specs.Refused.{IsNoRound, IsNotLeft, has_no_journal, journal_refused, not_left}
 use Rattle.salvage.specs.Sight.{held_files_if}
@@ -11,12 +11,15 @@ use Rattle.salvage.proofs.rounds.round_left.Goals as goal
 
 pub returns-in_err-name-clause-refused : goal.returns-in_err-name-clause-refused
 returns-in_err-name-clause-refused g c =
-    told-as (IsNoRound c.args.too (held_files_if (g.F.Folder.honest c.args.folder.now) (g.F.Folder.holds c.args.folder.now) (g.F.Folder.has c.args.folder.now) c.args.top.now) c.args.top.now) (Refused Memory) (journal_refused _ refusing_had_no_memory) c.from_residual.result c.from_residual.ensures.1
+    told-as (IsNoRound c.args.too (held_files_if (g.F.Folder.honest c.args.folder.now) (g.F.Folder.holds c.args.folder.now) (g.F.Folder.has c.args.folder.now) c.args.top.now) c.args.top.now) (Refused Memory) (journal_refused _ (refusing_had_no_memory, λ honest. refusing_unheld_had_no_memory)) c.from_residual.result c.from_residual.ensures.1
 
 pub returns-in_err-journal-clause-refused : goal.returns-in_err-journal-clause-refused
 returns-in_err-journal-clause-refused g c =
-    told-as (IsNoRound c.args.too (held_files_if (g.F.Folder.honest c.args.folder.now) (g.F.Folder.holds c.args.folder.now) (g.F.Folder.has c.args.folder.now) c.args.top.now) c.args.top.now) (Refused c.in_err-journal.field-0.0) (journal_refused _
-    (subst (λ (p : List ℕ). IsRefusalOf p c.in_err-journal.field-0.0) (c.as_str.ensures ∙ c.in_ok-name.ensures) c.in_err-journal.ensures.named))
+    told-as (IsNoRound c.args.too (held_files_if (g.F.Folder.honest c.args.folder.now) (g.F.Folder.holds c.args.folder.now) (g.F.Folder.has c.args.folder.now) c.args.top.now) c.args.top.now) (Refused c.in_err-journal.field-0.0) (journal_refused _ (
+      subst (λ (p : List ℕ). IsRefusalOf p c.in_err-journal.field-0.0) (c.as_str.ensures ∙ c.in_ok-name.ensures) c.in_err-journal.ensures.named,
+      λ honest. subst (λ (p : List ℕ). IsRefusalHeld (g.F.Folder.holds c.args.folder.now) p c.in_err-journal.field-0.0) (c.as_str.ensures ∙ c.in_ok-name.ensures)
+          (c.in_err-journal.ensures.unheld honest),
+    ))
     c.from_residual-in_err-journal.result c.from_residual-in_err-journal.ensures.1
 
 pub returns-in-Some-clause-refused : goal.returns-in-Some-clause-refused
