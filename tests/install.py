@@ -350,7 +350,7 @@ def completion_of_bash(folder):
     same(completed(folder, "dagrun status --m"), [])
     same(completed(folder, "dagrun times --"), ["--as-begun", "--help", "--json", "--rounds", "--summary", "--svg", "--trust-owner"])
     same(completed(folder, "dagrun report --"), ["--as-begun", "--help", "--reload", "--trust-owner"])
-    same(completed(folder, "dagrun redo --"), ["--help", "--only", "--trust-owner"])
+    same(completed(folder, "dagrun redo --"), ["--as-begun", "--help", "--only", "--trust-owner"])
     same(completed(folder, "dagrun why --"), ["--all", "--as-begun", "--help", "--json", "--trust-owner"])
     same(completed(folder, "dagrun check --"), ["--all", "--condor", "--help", "--hints", "--json"])
     same(completed(folder, "dagrun salvage --"), ["--ended", "--help", "--trust-owner"])
