@@ -86,6 +86,15 @@ ROWS = [
         "chmod +x {here}/prog.sh",
     ),
     Row(
+        "a submit file that was changed of a node that is done",
+        {"x.dag": DAG, "a.sub": sub("executable = /bin/true")},
+        [
+            ("dagrun run x.dag", 0, []),
+            ("echo '# mended' >>a.sub; dagrun redo x.dag A", 125, ["J5 OtherInputs", "call `dagrun redo --as-begun x.dag NODE ..` first"]),
+        ],
+        "dagrun redo --as-begun x.dag A",
+    ),
+    Row(
         "a script without #!",
         {"x.dag": DAG, "a.sub": sub("executable = prog.sh"), "prog.sh*": "echo made\n"},
         [
