@@ -1666,6 +1666,18 @@ def a_pipe_for_a_program(folder):
     mended(folder, "executable = a.sh", "    repair   this is a pipe, a device or a socket, no program: HERE/a.sh", first=pipe, repair=program)
 
 
+def no_such_program_at_home(folder):
+    """No shell reads the path of a program: neither ~ nor a variable stands for a folder."""
+    for path in ("~/bin/tool", "$HOME/bin/tool"):
+        mended(
+            folder, f"executable = {path}",
+            f"    repair   there is no such program: no shell reads its path, so write the whole path in place of ~ or a variable: 'HERE/{path}'",
+            repair=lambda folder: folder.write("a.sub", "executable = /bin/true\nqueue\n"),
+        )
+        for name in os.listdir(folder.path):
+            os.remove(folder.at(name))
+
+
 def no_such_program(folder):
     mended(
         folder, "executable = bin/tool",
@@ -5108,6 +5120,7 @@ ROWS = [
     no_first_line,
     a_carriage_return,
     no_such_program,
+    no_such_program_at_home,
     a_pipe_for_a_program,
     no_reader,
     no_output_folder,

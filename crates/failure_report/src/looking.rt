@@ -244,7 +244,11 @@ fn missing_repair<R: Files + AllocGlobal>(
             return Ok(Some(text));
         }
     }
-    let words = "there is no such program: put it there, or mend its path: ";
+    let words = if path.contains("/~") || path.contains("/$") {
+        "there is no such program: no shell reads its path, so write the whole path in place of ~ or a variable: "
+    } else {
+        "there is no such program: put it there, or mend its path: "
+    };
     about(alloc, words, path)
 }
 
