@@ -543,24 +543,18 @@ fn argument_of<'a>(alloc: Global, row: &ArgumentRow, is_tied: bool) -> Result<Ar
             .long(row.name)
             .value_name("0|1")
             .value_parser(value_parser!(u8).range(0..=1)),
-        Kind::Flag => argument.long(row.name).action(ArgAction::SetTrue),
-        Kind::FlagWithout(other) => {
-            let flag = argument.long(row.name).action(ArgAction::SetTrue);
-            if is_tied {
-                flag.conflicts_with(other)?
-            } else {
-                flag
-            }
-        }
-        Kind::FlagWithoutEach(one, other, third) => {
-            let flag = argument.long(row.name).action(ArgAction::SetTrue);
-            if is_tied {
-                flag.conflicts_with(one)?
-                    .conflicts_with(other)?
-                    .conflicts_with(third)?
-            } else {
-                flag
-            }
+        Kind::FlagWithout(other) if is_tied => argument
+            .long(row.name)
+            .action(ArgAction::SetTrue)
+            .conflicts_with(other)?,
+        Kind::FlagWithoutEach(one, other, third) if is_tied => argument
+            .long(row.name)
+            .action(ArgAction::SetTrue)
+            .conflicts_with(one)?
+            .conflicts_with(other)?
+            .conflicts_with(third)?,
+        Kind::Flag | Kind::FlagWithout(_) | Kind::FlagWithoutEach(_, _, _) => {
+            argument.long(row.name).action(ArgAction::SetTrue)
         }
         Kind::Words => argument.long(row.name).value_name("WORDS"),
         Kind::Path => argument.long(row.name).value_name("FILE"),
