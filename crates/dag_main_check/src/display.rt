@@ -9,7 +9,7 @@ use crate::warnings::Answer;
 use std::alloc::Global;
 
 /// The exit status of whatever is refused.
-const REFUSED: u8 = 125;
+pub const REFUSED: u8 = 125;
 
 /// What is displayed where there is no memory for more.
 const NO_MEMORY: &str = "dagrun: X1 Memory\n";

@@ -13,7 +13,7 @@ mod warnings;
 
 pub use check::check_text;
 pub use console::{Console, MemConsole, SystemConsole};
-pub use display::display_reply;
+pub use display::{REFUSED, display_reply};
 pub use fault::RunFault;
 pub use form::CheckForm;
 pub use missing::missing_in;

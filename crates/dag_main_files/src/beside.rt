@@ -77,10 +77,7 @@ pub fn rescue_path(alloc: Global, top: &str, number: u16) -> Result<Text, RunFau
     ensures name { IfOk result (λ name. name ≡ rescue_name_of top.now number) }
     ensures err { IfErr result (λ fault. fault ≡ Memory) }
 {
-    match rescue_name(alloc, top, number) {
-        Ok(name) => Ok(name),
-        Err(_) => Err(RunFault::Memory),
-    }
+    rescue_name(alloc, top, number).map_err(|_| RunFault::Memory)
 }
 
 /// How many bytes the name of a file has by its path.

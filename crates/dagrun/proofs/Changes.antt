@@ -8,8 +8,11 @@ use Rattle.dag_main_args.specs.declared.request.RunOptions.{RunOptions}
 use Rattle.dag_main_check.specs.declared.warnings.Answer.{Answer}
 use Rattle.dag_main_check.specs.declared.fault.RunFault.{RunFault}
 use Rattle.dag_main_files.specs.declared.rounds.Round.{Round}
-use Rattle.dag_main_files.specs.Folder.{IsReadFrom, IsRoundFrom, any_paths, rescue_in}
-use Rattle.dag_main_files.specs.Opened.{changing}
+use Rattle.dag_main_files.specs.Folder.{IsReadFrom, IsRoundFrom, these_paths, rescue_in}
+use Rattle.round_inputs.specs.declared.begun.Begun.{Begun}
+use Rattle.round_inputs.specs.declared.as_begun.ByFiles.{ByFiles}
+use Rattle.round_inputs.specs.AsBegun.{as_begun, IsSeenBy}
+use Rattle.dag_main_files.specs.Opened.{fixed}
 use Rattle.dag_main_files.specs.Changes.{FileChange}
 use Rattle.dag_main_run.specs.Sites.{Rounds}
 use Rattle.dag_main_run.specs.RunChanges.{found_where, no_looks, left_unlocked}
@@ -20,9 +23,9 @@ use Rattle.salvage.specs.declared.fault.SalvageFault.{SalvageFault}
 use Rattle.salvage.specs.declared.fault.SalvageFault.TheVariants.{Refused}
 use Rattle.salvage.proofs.SalvageChanges.{own-writes-nothing, nothing-for-any, leaves-as}
 use Rattle.redo.specs.Changes.{MakesRedo, redo_not_begun}
-use Rattle.dagrun.specs.Answered.{is_beside}
+use Rattle.dagrun.specs.Answered.{files_asked, is_beside}
 use Rattle.dagrun.proofs.Worlds.{AreToldAs}
-use Rattle.dagrun.specs.Changes.{RunKnowledge, ChangesOfRun, only_reported, ran, ran_untold, ChangesOfSalvage, salvage_left, salvage_refused, ChangesAs}
+use Rattle.dagrun.specs.Changes.{RunKnowledge, RedoKnowledge, ChangesKnown, IsMadeByFiles, made_by_files, nothing_made, MakesRedoWhere, known_where, ChangesOfRun, only_reported, ran, ran_untold, ChangesOfSalvage, salvage_left, salvage_refused, ChangesAs}
 
 -- it is known by other words
 abbrev pub KnowsAs : RunKnowledge → RunKnowledge → Type 0
@@ -62,24 +65,39 @@ same-known Found top options files round rescue found = found
 same-made : (result : Result Answer RunFault) → MakesAs result result
 same-made result top digest files rescue round steps Stopped made is = is
 
+-- what `redo` makes is known by other words
+abbrev pub MakesRedoAs : RedoKnowledge → RedoKnowledge → Type 0
+MakesRedoAs Makes Other = (path : List ℕ) (nodes : List (List ℕ)) (only begun : Bool) (result : Result Answer RunFault) (before now : List FileChange)
+    → Makes path nodes only begun result before now → Other path nodes only begun result before now
+
+pub redone-at : (Here Host : Type 0) (holds other : Files) (has others : List ℕ → Bool) → (Host → Here) → (Host → holds ≡ other) → (Host → has ≡ others)
+    → MakesRedoAs (MakesRedoWhere Here holds has) (MakesRedoWhere Host other others)
+redone-at Here Host holds other has others honest held there path nodes only begun result before now made = record {
+  some = made.some;
+  held = λ host.
+      subst (λ (f : Files). IsMadeByFiles (files_asked begun) f path (λ files. MakesRedo (fixed files) (these_paths others) path nodes only) result before now) (held host)
+      (subst (λ (h : List ℕ → Bool). IsMadeByFiles (files_asked begun) holds path (λ files. MakesRedo (fixed files) (these_paths h) path nodes only) result before now) (there host)
+      (made.held (honest host)));
+}
+
 -- what a command changes, known by other words
-pub known-as : (Found Other : RunKnowledge) (rounds others : Rounds) → KnowsAs Found Other → AreToldAs rounds others → (asked : Asked) (result : Result Answer RunFault)
-    (before now : List FileChange) → ChangesAs Found rounds asked result before now → ChangesAs Other others asked result before now
-known-as Found Other rounds others knows told (runs path options) result before now changes =
-    run-of result result Found Other knows rounds others told (same-made result) (λ e. e) path options before now changes
-known-as Found Other rounds others knows told (salvages path ended trust_owner) result before now changes = changes
-known-as Found Other rounds others knows told (redoes path nodes only begun trust_owner) result before now changes = changes
-known-as Found Other rounds others knows told (checks path all json hinted) result before now changes = changes
-known-as Found Other rounds others knows told (rehearses path outcomes limits always_post) result before now changes = changes
-known-as Found Other rounds others knows told (views path shown begun trust_owner) result before now changes = changes
-known-as Found Other rounds others knows told (shows page) result before now changes = changes
+pub known-as : (known other : ChangesKnown) (rounds others : Rounds) → KnowsAs known.found other.found → MakesRedoAs known.redone other.redone → AreToldAs rounds others → (asked : Asked)
+    (result : Result Answer RunFault) (before now : List FileChange) → ChangesAs known rounds asked result before now → ChangesAs other others asked result before now
+known-as known other rounds others knows makes told (runs path options) result before now changes =
+    run-of result result known.found other.found knows rounds others told (same-made result) (λ e. e) path options before now changes
+known-as known other rounds others knows makes told (salvages path ended trust_owner) result before now changes = changes
+known-as known other rounds others knows makes told (redoes path nodes only begun trust_owner) result before now changes = makes path nodes only begun result before now changes
+known-as known other rounds others knows makes told (checks path all json hinted) result before now changes = changes
+known-as known other rounds others knows makes told (rehearses path outcomes limits always_post) result before now changes = changes
+known-as known other rounds others knows makes told (views path shown begun trust_owner) result before now changes = changes
+known-as known other rounds others knows makes told (shows page) result before now changes = changes
 
 -- what is not beside a DAG file is not changed, whatever is known
-pub known-of-input : (Found Other : RunKnowledge) (rounds others : Rounds) (asked : Asked) → is_beside asked ≡ false → (result : Result Answer RunFault) (before now : List FileChange)
+pub known-of-input : (Found Other : ChangesKnown) (rounds others : Rounds) (asked : Asked) → is_beside asked ≡ false → (result : Result Answer RunFault) (before now : List FileChange)
     → ChangesAs Found rounds asked result before now → ChangesAs Other others asked result before now
 known-of-input Found Other rounds others (runs path options) isnt result before now changes = cc
 known-of-input Found Other rounds others (salvages path ended trust_owner) isnt result before now changes = changes
-known-of-input Found Other rounds others (redoes path nodes only begun trust_owner) isnt result before now changes = changes
+known-of-input Found Other rounds others (redoes path nodes only begun trust_owner) isnt result before now changes = cc
 known-of-input Found Other rounds others (checks path all json hinted) isnt result before now changes = changes
 known-of-input Found Other rounds others (rehearses path outcomes limits always_post) isnt result before now changes = changes
 known-of-input Found Other rounds others (views path shown begun trust_owner) isnt result before now changes = changes
@@ -91,23 +109,37 @@ run-unchanged : (Found : RunKnowledge) (rounds : Rounds) (top : List ℕ) (optio
 run-unchanged Found rounds top options result refused before = ran ([], no_looks, left_unlocked refused (sym (append-nil before)))
 
 -- a `redo` that is refused before it looks at the round
-pub refused-unchanged : (Q : RunFault → Type 0) (path : List ℕ) (nodes : List (List ℕ)) (only : Bool) (result : Result Answer RunFault) → IsErrAnd result Q → (before : List FileChange)
-    → MakesRedo changing any_paths path nodes only result before before
-refused-unchanged Q path nodes only (Ok answer) refused before = absurd refused
-refused-unchanged Q path nodes only (Err fault) refused before = redo_not_begun fault before before refl
+pub refused-unchanged : (Q : RunFault → Type 0) (Honest : Type 0) (holds : Files) (has : List ℕ → Bool) (path : List ℕ) (nodes : List (List ℕ)) (only begun : Bool) (result : Result Answer RunFault)
+    → IsErrAnd result Q → (before : List FileChange) → MakesRedoWhere Honest holds has path nodes only begun result before before
+refused-unchanged Q Honest holds has path nodes only begun (Ok answer) refused before = absurd refused
+refused-unchanged Q Honest holds has path nodes only begun (Err fault) refused before = record {
+  some = redo_not_begun fault before before refl;
+  held = λ honest. nothing_made fault before before refl;
+}
+
+-- what is made of a round, by the files by which it is looked at
+pub held-made : (path : List ℕ) (by asked : ByFiles) → by ≡ asked → (holds : Files) (kept : Option Begun) → IsSeenBy holds path by kept → (held : Files) → held ≡ holds
+    → (Makes : Files → Result Answer RunFault → (before now : List FileChange) → Type 0) (result : Result Answer RunFault) (before now : List FileChange)
+    → Makes (as_begun kept held) result before now → IsMadeByFiles asked holds path Makes result before now
+held-made path by asked same holds kept seen held is_held Makes result before now made = made_by_files result before now record {
+  begun = kept;
+  seen = subst (λ (b : ByFiles). IsSeenBy holds path b kept) same seen;
+  so = subst (λ (files : Files). Makes (as_begun kept files) result before now) is_held made;
+}
 
 -- a command that is refused at once changes nothing
-pub nothing-changed : (Q : RunFault → Type 0) (Found : RunKnowledge) (rounds : Rounds) (asked : Asked) (result : Result Answer RunFault) → IsErrAnd result Q → (before : List FileChange)
-    → ChangesAs Found rounds asked result before before
-nothing-changed Q Found rounds asked (Ok answer) refused before = absurd refused
-nothing-changed Q Found rounds (runs path options) (Err fault) refused before = run-unchanged Found rounds path options (Err fault) refl before
-nothing-changed Q Found rounds (salvages path ended trust_owner) (Err fault) refused before =
+pub nothing-changed : (Q : RunFault → Type 0) (Honest : Type 0) (holds : Files) (has : List ℕ → Bool) (rounds : Rounds) (asked : Asked) (result : Result Answer RunFault) → IsErrAnd result Q
+    → (before : List FileChange) → ChangesAs (known_where Honest holds has) rounds asked result before before
+nothing-changed Q Honest holds has rounds asked (Ok answer) refused before = absurd refused
+nothing-changed Q Honest holds has rounds (runs path options) (Err fault) refused before = run-unchanged (found_where Honest holds has) rounds path options (Err fault) refl before
+nothing-changed Q Honest holds has rounds (salvages path ended trust_owner) (Err fault) refused before =
     salvage_refused fault before before (salvage_not_begun refl)
-nothing-changed Q Found rounds (redoes path nodes only begun trust_owner) (Err fault) refused before = redo_not_begun fault before before refl
-nothing-changed Q Found rounds (checks path all json hinted) (Err fault) refused before = refl
-nothing-changed Q Found rounds (rehearses path outcomes limits always_post) (Err fault) refused before = refl
-nothing-changed Q Found rounds (views path shown begun trust_owner) (Err fault) refused before = refl
-nothing-changed Q Found rounds (shows page) (Err fault) refused before = refl
+nothing-changed Q Honest holds has rounds (redoes path nodes only begun trust_owner) (Err fault) refused before =
+    refused-unchanged Q Honest holds has path nodes only begun (Err fault) refused before
+nothing-changed Q Honest holds has rounds (checks path all json hinted) (Err fault) refused before = refl
+nothing-changed Q Honest holds has rounds (rehearses path outcomes limits always_post) (Err fault) refused before = refl
+nothing-changed Q Honest holds has rounds (views path shown begun trust_owner) (Err fault) refused before = refl
+nothing-changed Q Honest holds has rounds (shows page) (Err fault) refused before = refl
 
 -- a run that is refused, handed on
 handed-on : (given : RunFault) (result : Result Answer RunFault) → IsErrAnd result (λ fault. fault ≡ given) → (P : Result Answer RunFault → Type 0) → P (Err given) → P result

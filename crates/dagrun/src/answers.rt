@@ -16,14 +16,13 @@ ghost use Rattle.dag_main_files.specs.Folder.{any_paths, these_paths};
 ghost use Rattle.dag_main_files.specs.Opened.{changing, fixed};
 ghost use Rattle.dag_main_run.specs.Sites.{rounds_at};
 ghost use Rattle.dag_main_run.specs.RunChanges.{found_where};
-ghost use Rattle.redo.specs.Changes.{MakesRedo};
-ghost use Rattle.dagrun.specs.Changes.{ChangesOfRun, ChangesOfSalvage, ChangesAs};
+ghost use Rattle.dagrun.specs.Changes.{ChangesOfRun, ChangesOfSalvage, ChangesAs, MakesRedoWhere, known_where};
 ghost use Rattle.dagrun.specs.Answered.{is_run, changing_files, held_in, run_contract, redo_contract, command_contract, ComesTo, IsPage, IsRehearsalWith, IsRehearsalRefusalWith, IsSalvageWith, AreHints};
 
 use crate::checking::{check, check_form};
 use crate::of_round::{files_asked, show};
 use dag_main_args::{Request, RunOptions};
-use dag_main_check::{Answer, Console, RunFault};
+use dag_main_check::{Answer, Console, REFUSED, RunFault};
 use dag_main_files::{Changes, Folder, Place, read_input, refused};
 use dag_main_inspect::{Form, Question, answer_here, report_here};
 use dag_main_run::{Screen, Site, run_dag};
@@ -38,9 +37,6 @@ use std::process::Processes;
 use std::rt::Files;
 use std::time::Clock;
 use throttles::Limits;
-
-/// The exit status of whatever is refused.
-pub(crate) const REFUSED: u8 = 125;
 
 /// What is answered to a request by the files of a folder. What a run writes, and what the system has besides, as a
 /// table of outcomes or the output of a job, is where the system says, seen from the path of that folder. The hints
@@ -70,7 +66,7 @@ pub(crate) fn answer_in<
     ensures hinted { C.honest console.new → AreHints (asked_by request.entry) result (C.shown console.old) (C.shown console.new) }
     ensures back { C.honest console.new → C.honest console.old }
     // What the command changes beside the DAG file: only `run`, `salvage` and `redo` change anything.
-    ensures changes { ChangesAs (found_where (F.honest folder.now) (F.holds folder.now) (F.has folder.now))
+    ensures changes { ChangesAs (known_where (F.honest folder.now) (F.holds folder.now) (F.has folder.now))
         (rounds_at F.Journal.Disk F.Rescue.Disk (F.own folder.now) (F.honest folder.now) (F.holds folder.now))
         (asked_by request.entry) result changes.old changes.new }
 {
@@ -271,7 +267,8 @@ fn redo_in<R: Files<File = File> + Clock + AllocGlobal + Copy + Drop, F: Site>(
     ensures some { ComesTo (redo_contract changing_files dag.now (map (λ n. n.now) wanted.now.nodes.now) wanted.now.only wanted.now.as_begun) result }
     ensures held { F.honest folder.now → ComesTo (redo_contract (held_in (F.holds folder.now) (F.has folder.now)) dag.now
         (map (λ n. n.now) wanted.now.nodes.now) wanted.now.only wanted.now.as_begun) result }
-    ensures changes { MakesRedo changing any_paths dag.now (map (λ n. n.now) wanted.now.nodes.now) wanted.now.only result changes.old changes.new }
+    ensures changes { MakesRedoWhere (F.honest folder.now) (F.holds folder.now) (F.has folder.now) dag.now
+        (map (λ n. n.now) wanted.now.nodes.now) wanted.now.only wanted.now.as_begun result changes.old changes.new }
 {
     let seen = seen_by(rt.alloc(), folder, dag, files_asked(wanted.as_begun))?;
     let place = Place {

@@ -4,15 +4,14 @@ ghost use Rattle.std.specs.Prelude.{◌≡◌, map};
 ghost use Rattle.dag_main_args.specs.Requests.{asked_by, shown_by};
 ghost use Rattle.dag_main_check.specs.Consoles.{IsExitStatusOf};
 ghost use Rattle.dag_main_run.specs.Sites.{rounds_at};
-ghost use Rattle.dag_main_run.specs.RunChanges.{found_where};
-ghost use Rattle.dagrun.specs.Changes.{ChangesAs, ChangesAsAsked};
+ghost use Rattle.dagrun.specs.Changes.{ChangesAs, ChangesAsAsked, known_where};
 ghost use Rattle.dagrun.specs.Answered.{fold_at, shown_at, asked_at, is_beside, is_owner_trusted, IsReply, IsExit, AreHints, IsDisplayedThen, IsCall};
 
-use crate::answers::{REFUSED, answer_in};
+use crate::answers::answer_in;
 use crate::host::Host;
 use crate::of_round::graph_asked;
 use dag_main_args::{FoldRule, ProgressRule, Request, ShownRound, View, WordsFault, read_words};
-use dag_main_check::{Answer, Console, RunFault, display_reply};
+use dag_main_check::{Answer, Console, REFUSED, RunFault, display_reply};
 use dag_main_files::Changes;
 use dag_main_run::Screen;
 use std::fs::File;
@@ -44,7 +43,7 @@ pub fn run<
         (map (λ w. w.now) words.now) (C.shown console.old) (C.shown console.new) result }
     ensures back { C.honest console.new → C.honest console.old }
     // What the command changes beside its DAG file, and in which order; only `run`, `salvage` and `redo` change anything.
-    ensures changes { ChangesAsAsked (found_where (H.honest host.now) (H.world host.now).holds (H.world host.now).has)
+    ensures changes { ChangesAsAsked (known_where (H.honest host.now) (H.world host.now).holds (H.world host.now).has)
         (rounds_at H.Here.Journal.Disk H.Here.Rescue.Disk (H.own host.now) (H.honest host.now) (H.world host.now).holds) to_terminal
         (IsReply (H.honest host.now) (H.is_lost host.now) (H.world host.now)
         (rounds_at H.Here.Journal.Disk H.Here.Rescue.Disk (H.own host.now) (H.honest host.now) (H.world host.now).holds))
@@ -131,7 +130,7 @@ fn answer<
         (asked_by request.entry) result }
     ensures hinted { C.honest console.new → AreHints (asked_by request.entry) result (C.shown console.old) (C.shown console.new) }
     ensures back { C.honest console.new → C.honest console.old }
-    ensures changes { ChangesAs (found_where (H.honest host.now) (H.world host.now).holds (H.world host.now).has)
+    ensures changes { ChangesAs (known_where (H.honest host.now) (H.world host.now).holds (H.world host.now).has)
         (rounds_at H.Here.Journal.Disk H.Here.Rescue.Disk (H.own host.now) (H.honest host.now) (H.world host.now).holds)
         (asked_by request.entry) result changes.old changes.new }
 {

@@ -8,9 +8,8 @@ mod host;
 mod of_round;
 mod shorthand;
 
-use answers::REFUSED;
 use commands::run;
-use dag_main_check::SystemConsole;
+use dag_main_check::{REFUSED, SystemConsole};
 use dag_main_files::Changes;
 use dag_main_run::Screen;
 use host::SystemHost;

@@ -11,7 +11,7 @@ mod form;
 mod why_data;
 
 use crate::why_data::nodes_json;
-use dag_main_check::{Answer, RunFault, warning_text};
+use dag_main_check::{Answer, REFUSED, RunFault, warning_text};
 use dag_main_files::{Folder, Place};
 use dag_main_inspect::last_round;
 use dag_reader::Text;
@@ -23,9 +23,6 @@ use std::alloc::{AllocError, Global};
 use std::fs::File;
 use std::io::{self, ErrorKind, Read, Seek, SeekFrom};
 use std::rt::Files;
-
-/// The exit status where a name is none of a node.
-const REFUSED: u8 = 125;
 
 /// How much of a log is read, from its end, in bytes.
 const MOST_OF_LOG: u64 = 1 << 26;

@@ -5,12 +5,9 @@ ghost use Rattle.fault_list.specs.LineFaults.{IsCheckOfAll, IsRefusalOfAll};
 
 use crate::faults::{fault_lines, line_faults};
 use crate::places::fault_place;
-use dag_main_check::{Answer, CheckForm, RunFault, check_text};
+use dag_main_check::{Answer, CheckForm, REFUSED, RunFault, check_text};
 use splices_flat::FileSet;
 use std::alloc::Global;
-
-/// The exit status of whatever is refused.
-const REFUSED: u8 = 125;
 
 /// Checks the DAG file of this path, those of its splices and the submit files of its nodes, which stand in the file set, as
 /// `check_text` does, in a form. Where these are refused for a fault that names a line, the answer has no text, status 125, and as warnings

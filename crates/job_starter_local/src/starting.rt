@@ -42,10 +42,7 @@ impl Refusal {
 
 /// What was answered for a part of a command.
 fn at_part<T>(part: CommandPart, answer: io::Result<T>) -> Result<T, Refusal> {
-    match answer {
-        Ok(value) => Ok(value),
-        Err(error) => Err(Refusal { part, error }),
-    }
+    answer.map_err(|error| Refusal { part, error })
 }
 
 /// The input of a child: a file, or nothing.

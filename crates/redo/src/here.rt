@@ -14,7 +14,7 @@ ghost use Rattle.redo.specs.Numbers.{IsNextNumber};
 
 use crate::marks::{Redone, redone_text};
 use crate::numbers::next_number;
-use dag_main_check::{Answer, RunFault, warning_text};
+use dag_main_check::{Answer, REFUSED, RunFault, warning_text};
 use dag_main_files::{Changes, Folder, Place, journal_path, rescue_path};
 use dag_main_inspect::open_round;
 use failure_report::{Named, numbers_of};
@@ -25,9 +25,6 @@ use std::alloc::{AllocError, Global};
 use std::fs::File;
 use std::rt::Files;
 use std::time::Clock;
-
-/// The exit status where nothing is changed.
-const REFUSED: u8 = 125;
 
 /// The next rescue file of a round, how many nodes the round has, and the warnings of its files.
 #[derive(Drop)]

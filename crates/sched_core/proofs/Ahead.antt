@@ -1,10 +1,9 @@
 -- What may be started once some phases are launched.
-use Rattle.std.proofs.Common.{nat_lt, lt-ltb, ◌≡◌, ℕ, suc, ◌+◌, ◌<◌, ◌≤◌, Bool, true, false, not, ◌&&◌, ◌||◌, List, [], ◌∷◌, ◌++◌, length, get_or, take, drop, Option, Some, None, refl, sym, ap, ◌∙◌, subst, arith, length-append, length-take, ◌==◌, eq-eqb, if◌then◌else◌}
+use Rattle.std.proofs.Common.{nat_lt, lt-ltb, ◌≡◌, ℕ, suc, ◌+◌, ◌<◌, ◌≤◌, Bool, true, false, not, ◌&&◌, ◌||◌, List, [], ◌∷◌, ◌++◌, length, get_or, take, drop, Option, Some, None, refl, sym, ap, ◌∙◌, arith, length-take, ◌==◌, eq-eqb, if◌then◌else◌}
 use Rattle.std.specs.Prelude.{nat_le, slice_index}
-use Rattle.std.specs.List.{All, list_all}
+use Rattle.std.specs.List.{list_all}
 use Rattle.std.proofs.lemmas.Bool.{and_parts, and_from, false≢true, false_from_ne_true, ltb-true, leb-true, not-true}
-use Rattle.std.proofs.lemmas.List.{get_or_default, take_more, drop_more}
-use Rattle.std.proofs.lemmas.List.Elements.{All-push}
+use Rattle.std.proofs.lemmas.List.{take_more, drop_more}
 use Rattle.node_machine.specs.declared.Key.{Key}
 use Rattle.node_machine.specs.declared.Phase.{Phase}
 use Rattle.node_machine.specs.declared.Phase.TheVariants.{Pre, Job, Post}
@@ -13,7 +12,6 @@ use Rattle.node_machine.specs.declared.Record.TheVariants.{Launch}
 use Rattle.throttles.specs.declared.Limits.{Limits}
 use Rattle.throttles.specs.Throttled.{Throttled, Running, is_below, lets_phase, limit_of, of_kind, all_in, may_start, with_one, IsPlace}
 use Rattle.throttles.proofs.Counts.{with-all, kind-more, category-more}
-use Rattle.ready_queue.specs.declared.Member.{Member}
 use Rattle.run_plan.specs.Plan.{Plan, node_at, count_of, all_below}
 use Rattle.run_plan.specs.Planned.{IsPlanned}
 use Rattle.sched_core.specs.declared.Choice.TheVariants as choices
@@ -29,11 +27,9 @@ use Rattle.sched_core.proofs.Held.{launched-within}
 use Rattle.sched_core.proofs.Finished.{all_below-at}
 use Rattle.sched_core.proofs.Throttling.{counted, running-all, outstanding-few}
 use Rattle.ready_queue.proofs.Edits.{by_lt}
-use Rattle.sched_core.proofs.Alone.{ready-before}
 use Rattle.node_machine.specs.Story.{phase_number}
 use Rattle.sched_core.proofs.Moves.{launchable-next, jobs-few}
-use Rattle.sched_core.proofs.Best.{startable-parts, startable-node, startable-past, best-step, best-start}
-use Rattle.sched_core.proofs.Queues.{HaveReady, first-best, none-best, waiting-node, startable-ready, step-test}
+use Rattle.sched_core.proofs.Best.{startable-parts, startable-past, best-step, best-start}
 
 -- lists of launches
 pub launched-more : (past : List Record) (keys : List Key) (key : Key) → launched past (keys ++ key ∷ []) ≡ launch_of (launched past keys) key ∷ launched past keys
@@ -176,18 +172,6 @@ module _ (limits : Limits) (plan : Plan) (planned : IsPlanned plan) where
       ap (if_let_in limits plan (Launch key number ∷ past))
       (launch-one plan past key number key.node lt ∙ ap (unless_same key) may ∙ (λ j. if same-self key j then None else Some key))
 
--- the same nodes wait after a launch
-pub waiting-on : (plan : Plan) (past : List Record) (members : List Member) (key : Key) (number : ℕ) → HaveReady plan past members → HaveReady plan (Launch key number ∷ past) members
-waiting-on plan past members key number are = record {
-  ordered = are.ordered;
-  each = are.each;
-  ready = λ node lt ready. are.ready node lt (ready-before plan past key number node ready);
-}
-
-pub waiting-all : (plan : Plan) (past : List Record) (keys : List Key) (members : List Member) → HaveReady plan past members → HaveReady plan (launched past keys) members
-waiting-all plan past [] members are = are
-waiting-all plan past (key ∷ keys) members are = waiting-all plan (launch_of past key ∷ past) keys members (waiting-on plan past members key (launch_number past key) are)
-
 -- what may be started of an ordinary node once these are launched
 module _ (limits : Limits) (plan : Plan) (past : List Record) (keys : List Key) (node : ℕ) (lt : node < count_of plan) where
   behind : (o : Option Key) → launchable plan past node ≡ o → startable limits plan (launched past keys) node ≡ if_let_in limits plan (launched past keys) (unless_among keys o)
@@ -239,51 +223,6 @@ pub launched-few : (plan : Plan) (past : List Record) (keys : List Key) → leng
 launched-few plan past [] = omega arith
 launched-few plan past (key ∷ keys) = let h = launched-few plan (launch_of past key ∷ past) keys in omega (arith, h)
 
--- one phase more of a round
-module _ (limits : Limits) (plan : Plan) (planned : IsPlanned plan) (past : List Record) (members : List Member) (are : HaveReady plan past members) (keys : List Key) (i : ℕ) (own : Member) (inside : i < length members)
-    (is : get_or members i own ≡ own) (key : Key) (some : startable limits plan (launched past keys) own.node ≡ Some key)
-    (passed : (k : ℕ) (d : Member) → k < i → startable limits plan (launched past keys) (get_or members k d).node ≡ None) where
-  here : HaveReady plan (launched past keys) members
-  here = waiting-all plan past keys members are
-
-  below : own.node < count_of plan
-  below = subst (λ (m : Member). m.node < count_of plan) is (waiting-node plan (launched past keys) members i own here inside)
-
-  at : key.node ≡ own.node
-  at = startable-node limits plan (launched past keys) own.node key some
-
-  pub key-below : key.node < count_of plan
-  key-below = subst (λ n. n < count_of plan) (sym at) below
-
-  pub is-chosen : IsChoice limits plan (launched past keys) (choices.Start key)
-  is-chosen =
-      best-start limits plan (launched past keys) key
-      (best-step limits plan (launched past keys) (count_of plan) (Some key) None
-      (first-best limits plan (launched past keys) members i own key here inside is passed some)
-      (final-waits limits plan (launched past keys) own.node below (startable-ready limits plan (launched past keys) own.node key below some)))
-
-  pub more-passed : (k : ℕ) (d : Member) → k < i + 1 → startable limits plan (launched past (keys ++ key ∷ [])) (get_or members k d).node ≡ None
-  more-passed =
-      subst (λ (p : List Record). (k : ℕ) (d : Member) → k < i + 1 → startable limits plan p (get_or members k d).node ≡ None) (sym (launched-more past keys key))
-      (step-test (startable limits plan (launch_of (launched past keys) key ∷ launched past keys)) members i own inside
-      (λ k d lt. still-none limits plan planned (launched past keys) key (launch_number (launched past keys) key) (get_or members k d).node
-      (waiting-node plan (launched past keys) members k d here (omega (arith, lt, inside))) (passed k d lt))
-      (ap (λ (m : Member). startable limits plan (launch_of (launched past keys) key ∷ launched past keys) m.node) is
-      ∙ ap (startable limits plan (launch_of (launched past keys) key ∷ launched past keys)) (sym at)
-      ∙ not-again limits plan planned (launched past keys) key (launch_number (launched past keys) key) key-below (ap (startable limits plan (launched past keys)) at ∙ some)))
-
-  pub more-counted : (throttled : Throttled) → throttled ≡ throttled_in limits plan (outstanding plan (launched past keys))
-      → record throttled { running = with_one throttled.running key.phase (node_at plan key.node).category } ≡ throttled_in limits plan (outstanding plan (launched past (keys ++ key ∷ [])))
-  more-counted throttled counts =
-      ap (λ (t : Throttled). record t { running = with_one t.running key.phase (node_at plan key.node).category }) counts
-      ∙ ap (λ (p : List Record). throttled_in limits plan (outstanding plan p)) (sym (launched-more past keys key))
-
--- where all that wait were passed, no ordinary phase may be started
-pub all-passed : (limits : Limits) (plan : Plan) (past : List Record) (members : List Member) → HaveReady plan past members → (keys : List Key)
-    → ((k : ℕ) (d : Member) → k < length members → startable limits plan (launched past keys) (get_or members k d).node ≡ None)
-    → (node : ℕ) → node < count_of plan → startable limits plan (launched past keys) node ≡ None
-all-passed limits plan past members are keys passed = none-best limits plan (launched past keys) members (waiting-all plan past keys members are) passed
-
 -- and where an ordinary phase was launched, FINAL's may not be
 pub busy : (limits : Limits) (plan : Plan) (past : List Record) → list_all (λ (key : Key). nat_le (count_of plan) key.node) (outstanding plan past) ≡ false → startable limits plan past (count_of plan) ≡ None
 unfolding may_launch is_final_ready
@@ -333,38 +272,6 @@ count-room limits plan planned past keys throttled records counts same small =
     let few = launched-few plan past keys in
     let old = outstanding-few plan past in
     omega (arith, all, few, old, same, small)
-
--- a round of which so many members were gone over, with the throttles that count it
-pub record Going (limits : Limits) (plan : Plan) (past : List Record) (members : List Member) (max place : ℕ) (keys : List Key) (throttled : Throttled) : Type 0 where
-  pub ordinary : All (λ (key : Key). key.node < count_of plan) keys
-  pub chosen : AreChosen limits plan past keys
-  pub few : length keys ≤ max
-  pub counted : throttled ≡ throttled_in limits plan (outstanding plan (launched past keys))
-  pub passed : (k : ℕ) (d : Member) → k < place → startable limits plan (launched past keys) (get_or members k d).node ≡ None
-
-module _ (limits : Limits) (plan : Plan) (past : List Record) (members : List Member) (max place : ℕ) (keys : List Key) (throttled : Throttled) (inside : place < length members) (d : Member)
-    (going : Going limits plan past members max place keys throttled) where
-  pub goes-by : startable limits plan (launched past keys) (get_or members place d).node ≡ None → Going limits plan past members max (place + 1) keys throttled
-  goes-by none = record {
-    ordinary = going.ordinary;
-    chosen = going.chosen;
-    few = going.few;
-    counted = going.counted;
-    passed = step-test (startable limits plan (launched past keys)) members place d inside going.passed none;
-  }
-
-  pub goes-on : IsPlanned plan → HaveReady plan past members → (key : Key) → startable limits plan (launched past keys) (get_or members place d).node ≡ Some key → length keys < max
-      → Going limits plan past members max (place + 1) (keys ++ key ∷ []) (record throttled { running = with_one throttled.running key.phase (node_at plan key.node).category })
-  goes-on planned are key some room =
-      let own = get_or members place d in
-      let is : get_or members place own ≡ own = get_or_default members place own d inside in
-      record {
-        ordinary = All-push (λ (k : Key). k.node < count_of plan) keys key going.ordinary (key-below limits plan planned past members are keys place own inside is key some going.passed);
-        chosen = chosen-more limits plan past keys key going.chosen (is-chosen limits plan planned past members are keys place own inside is key some going.passed);
-        few = omega (arith, length-append keys (key ∷ []), room);
-        counted = more-counted limits plan planned past members are keys place own inside is key some going.passed throttled going.counted;
-        passed = more-passed limits plan planned past members are keys place own inside is key some going.passed;
-      }
 
 -- a round of ordinary phases is all there is
 pub busy-round : (limits : Limits) (plan : Plan) (past : List Record) (max : ℕ) (keys : List Key) → IsRound limits plan past max keys → 0 < length keys → length keys < max → NothingToStart limits plan (launched past keys)

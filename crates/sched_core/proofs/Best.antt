@@ -1,7 +1,7 @@
 -- The best of the phases that may be started.
-use Rattle.std.proofs.Common.{nat_lt, lt-ltb, not, ◌||◌, zero, ◌≡◌, ℕ, suc, ◌<◌, inl, inr, Bool, true, false, List, [], ◌∷◌, length, Option, Some, None, ◌==◌, refl, sym, ap, ◌∙◌, subst, arith, eqb-true, if◌then◌else◌}
-use Rattle.std.specs.Prelude.{ℤ, ◌<ℤ◌, ◌≤ℤ◌, int_lt, replicate, slice_index}
-use Rattle.std.proofs.lemmas.Bool.{eqb-false, ltb-true, ltb-false, and_from, false≢true}
+use Rattle.std.proofs.Common.{nat_lt, lt-ltb, not, ◌||◌, zero, ◌≡◌, ℕ, suc, ◌<◌, inl, inr, ⊎_elim, Bool, true, false, List, [], ◌∷◌, length, Option, Some, None, ◌==◌, refl, sym, ap, ◌∙◌, subst, arith, if◌then◌else◌}
+use Rattle.std.specs.Prelude.{◌⊎◌, ℤ, ◌≤ℤ◌, replicate, slice_index}
+use Rattle.std.proofs.lemmas.Bool.{ltb-true, ltb-false, and_from, false≢true}
 use Rattle.std.proofs.lemmas.Int.{ints, by_lt_z}
 use Rattle.node_machine.specs.declared.Key.{Key}
 use Rattle.node_machine.specs.declared.Phase.{Phase}
@@ -15,9 +15,14 @@ use Rattle.node_machine.specs.declared.Record.TheVariants.{Launch}
 use Rattle.sched_core.specs.declared.Choice.{Choice}
 use Rattle.sched_core.specs.declared.Choice.TheVariants as choices
 use Rattle.sched_core.specs.Run.{outstanding, is_nothing, is_open, may_launch, may_follow, launch_number}
-use Rattle.sched_core.specs.Core.{better_of, IsBestBelow}
+use Rattle.sched_core.specs.Core.{better_of, IsBestOf, IsBestBelow}
 use Rattle.sched_core.specs.Choices.{launchable, nothing_launchable, if_let_in, startable, IsChoice}
-use Rattle.sched_core.specs.Limits.{limits_of_categories, lets_in, IsBetter}
+use Rattle.sched_core.specs.Limits.{member_of, limits_of_categories, lets_in, IsBetter}
+use Rattle.ready_queue.specs.declared.Member.{Member}
+use Rattle.ready_queue.specs.Queue.{ComesBefore, comes_before}
+use Rattle.ready_queue.proofs.Places.{trans, either, is-before, comes-before}
+use Rattle.ready_queue.proofs.Edits.{by_lt}
+use Rattle.sched_core.proofs.Shares.{by_same}
 use Rattle.sched_core.proofs.Sweeps.{all_below-from, all_below-not}
 use Rattle.sched_core.proofs.Leaf.{key-node}
 use Rattle.sched_core.proofs.Held.{launch-within}
@@ -60,75 +65,66 @@ module _ (limits : Limits) (plan : Plan) (past : List Record) where
   not-better-itself node (inl x) = omega (arith, ints)
   not-better-itself node (inr x) = let l = x.1 in omega arith
 
-  -- below a number and at it
-  below-and-at : (i best : ℕ) → ((node : ℕ) (other : Key) → node < i → startable limits plan past node ≡ Some other → IsBetter plan node best → ⊥)
-      → ((other : Key) → startable limits plan past i ≡ Some other → IsBetter plan i best → ⊥)
-      → (node : ℕ) (other : Key) → node < suc i → startable limits plan past node ≡ Some other → IsBetter plan node best → ⊥
-  below-and-at i best below here node other lt e = go (node == i) refl
+  -- the better of the best of some nodes and the best of others is the best of all
+  pub merged : (some more all : ℕ → Type 0) → ((node : ℕ) → some node → all node) → ((node : ℕ) → more node → all node) → ((node : ℕ) → all node → some node ⊎ more node)
+      → (best next : Option Key) → IsBestOf limits plan past some best → IsBestOf limits plan past more next → IsBestOf limits plan past all (better_of plan best next)
+  merged some more all left right split None None b n = λ node is. ⊎_elim (λ x. b node x) (λ y. n node y) (split node is)
+  merged some more all left right split None (Some next) b n = (
+    n.0,
+    right next.node n.1,
+    λ node other is e better. ⊎_elim (λ x. let bad : None ≡ Some other = sym (b node x) ∙ e in absurd cc) (λ y. n.2 node other y e better) (split node is),
+  )
+  merged some more all left right split (Some best) None b n = (
+    b.0,
+    left best.node b.1,
+    λ node other is e better. ⊎_elim (λ x. b.2 node other x e better) (λ y. let bad : None ≡ Some other = sym (n node y) ∙ e in absurd cc) (split node is),
+  )
+  merged some more all left right split (Some best) (Some next) b n = go (comes_before (member_of plan next.node) (member_of plan best.node)) refl
     where
-      go : (b : Bool) → (node == i) ≡ b → IsBetter plan node best → ⊥
-      go true same =
-          let n : i ≡ node = sym (eqb-true node i same) in
-          subst (λ m. IsBetter plan m best → ⊥) n (here other (ap (startable limits plan past) n ∙ e))
-      go false ne = below node other (let d = eqb-false node i ne in omega arith) e
+      go : (t : Bool) → comes_before (member_of plan next.node) (member_of plan best.node) ≡ t → IsBestOf limits plan past all (if t then Some next else Some best)
+      go true e =
+          let before = comes-before (member_of plan next.node) (member_of plan best.node) e in (
+            n.0,
+            right next.node n.1,
+            λ node other is s better. ⊎_elim
+                (λ x. b.2 node other x s (trans (member_of plan node) (member_of plan next.node) (member_of plan best.node) better before))
+                (λ y. n.2 node other y s better) (split node is),
+          )
+      go false e = (
+        b.0,
+        left best.node b.1,
+        λ node other is s better. ⊎_elim (λ x. b.2 node other x s better) (λ y. n.2 node other y s (over node better)) (split node is),
+      )
+        where
+          not-before : ComesBefore (member_of plan next.node) (member_of plan best.node) → ⊥
+          not-before c = false≢true (sym e ∙ is-before (member_of plan next.node) (member_of plan best.node) c)
 
-  none-and-none : (i : ℕ) → ((node : ℕ) → node < i → startable limits plan past node ≡ None) → startable limits plan past i ≡ None
-      → (node : ℕ) → node < suc i → startable limits plan past node ≡ None
-  none-and-none i below here node lt = go (node == i) refl
-    where
-      go : (b : Bool) → (node == i) ≡ b → startable limits plan past node ≡ None
-      go true same = ap (startable limits plan past) (eqb-true node i same) ∙ here
-      go false ne = below node (let d = eqb-false node i ne in omega arith)
+          over : (node : ℕ) → IsBetter plan node best.node → IsBetter plan node next.node
+          over node better = on (comes_before (member_of plan node) (member_of plan next.node)) refl
+            where
+              on : (t : Bool) → comes_before (member_of plan node) (member_of plan next.node) ≡ t → IsBetter plan node next.node
+              on true t = comes-before (member_of plan node) (member_of plan next.node) t
+              on false f = absurd (by_same node next.node
+                  (λ same. not-before (subst (λ k. IsBetter plan k best.node) same better))
+                  (λ ne. not-before (trans (member_of plan next.node) (member_of plan node) (member_of plan best.node)
+                  (either (member_of plan node) (member_of plan next.node) (λ c. false≢true (sym f ∙ is-before (member_of plan node) (member_of plan next.node) c)) (λ eq. ne (ap (λ (m : Member). m.node) eq)))
+                  better)))
+
+  -- one node's own phase
+  own-best : (i : ℕ) (o : Option Key) → startable limits plan past i ≡ o → IsBestOf limits plan past (λ node. node ≡ i) o
+  own-best i None s = λ node is. ap (startable limits plan past) is ∙ s
+  own-best i (Some key) s =
+      let at : key.node ≡ i = startable-node i key s in (
+        ap (startable limits plan past) at ∙ s,
+        at,
+        λ node other is k b. not-better-itself i (subst (λ n. IsBetter plan n i) is (subst (IsBetter plan node) at b)),
+      )
 
   pub best-step : (i : ℕ) (best o : Option Key) → IsBestBelow limits plan past i best → startable limits plan past i ≡ o
       → IsBestBelow limits plan past (suc i) (better_of plan best o)
-  best-step i None None s e = none-and-none i s e
-  best-step i None (Some key) s e =
-      let at : key.node ≡ i = startable-node i key e in (
-        ap (startable limits plan past) at ∙ e,
-        omega arith,
-        below-and-at i key.node (λ node other lt k b.
-            let bad : None ≡ Some other = sym (s node lt) ∙ k in absurd cc)
-            (λ other k b. not-better-itself i (subst (IsBetter plan i) at b)),
-      )
-  best-step i (Some best) None s e =
-      let lt = s.1 in (
-        s.0,
-        omega arith,
-        below-and-at i best.node s.2 (λ other k b. let bad : None ≡ Some other = sym e ∙ k in absurd cc),
-      )
-  best-step i (Some best) (Some key) s e = go (int_lt (node_at plan best.node).priority (node_at plan key.node).priority) refl
-    where
-      at : key.node ≡ i
-      at = startable-node i key e
-
-      below : (a b : ℤ) → int_lt a b ≡ true → a <ℤ b
-      below a b h = omega (arith, ints)
-
-      not_below : (a b : ℤ) → int_lt a b ≡ false → b ≤ℤ a
-      not_below a b h = omega (arith, ints)
-
-      go : (b : Bool) → int_lt (node_at plan best.node).priority (node_at plan key.node).priority ≡ b
-          → IsBestBelow limits plan past (suc i) (if b then Some key else Some best)
-      go true greater = (
-        ap (startable limits plan past) at ∙ e,
-        (let a = at in omega arith),
-        below-and-at i key.node (λ node other lt k b. s.2 node other lt k (over node b))
-            (λ other k b. not-better-itself i (subst (IsBetter plan i) at b)),
-      )
-        where
-          over : (node : ℕ) → IsBetter plan node key.node → IsBetter plan node best.node
-          over node (inl x) = let l = below (node_at plan best.node).priority (node_at plan key.node).priority greater in inl (omega (arith, ints))
-          over node (inr x) = let l = below (node_at plan best.node).priority (node_at plan key.node).priority greater in let q = x.0 in inl (omega (arith, ints))
-      go false not_greater = (
-        s.0,
-        (let lt = s.1 in omega arith),
-        below-and-at i best.node s.2 (λ other k b. under (subst (λ m. IsBetter plan m best.node) (sym at) b)),
-      )
-        where
-          under : IsBetter plan key.node best.node → ⊥
-          under (inl x) = let l = not_below (node_at plan best.node).priority (node_at plan key.node).priority not_greater in omega (arith, ints)
-          under (inr x) = let a = at in let l = x.1 in let lt = s.1 in omega arith
+  best-step i best o b s =
+      merged (λ node. node < i) (λ node. node ≡ i) (λ node. node < suc i) (λ node lt. omega (arith, lt)) (λ node is. omega (arith, is))
+      (λ node lt. by_lt node i (λ less. inl less) (λ ge. inr (omega (arith, ge, lt)))) best o b (own-best i o s)
 
 -- where nothing is outstanding every phase is let in
 below-zero : (limit : ℕ) → is_below limit 0 ≡ true

@@ -7,6 +7,8 @@ pub mod LivesLemmas
 pub mod RoundsLemmas
 pub mod Namesakes
 pub mod Sweeps
+mod Heads
+mod Going
 pub mod Held
 pub mod Shown
 pub mod Leaf
@@ -32,7 +34,6 @@ mod Tallies
 mod Keeping
 mod Settling
 mod Shares
-mod Holding
 mod Undone
 mod Turning
 pub mod Failed

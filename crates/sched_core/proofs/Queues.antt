@@ -1,39 +1,40 @@
 -- The nodes that may start, as a core keeps them, are those that are ready.
-use Rattle.std.proofs.Common.{◌≡◌, ℕ, zero, suc, ◌+◌, ◌<◌, Bool, true, false, not, ◌&&◌, ◌||◌, ◌==◌, List, [], ◌∷◌, length, get_or, Option, Some, None, is_none, refl, sym, ap, ◌∙◌, subst, arith, eq-eqb, eqb-true, lt-ltb, if◌then◌else◌}
+use Rattle.std.proofs.Common.{◌≡◌, ℕ, zero, suc, ◌<◌, Bool, true, false, not, ◌&&◌, ◌||◌, ◌==◌, List, [], ◌∷◌, length, Option, Some, None, is_none, refl, sym, ap, ◌∙◌, subst, arith, eq-eqb, lt-ltb, if◌then◌else◌}
 use Rattle.std.specs.Prelude.{nat_lt, nat_le}
 use Rattle.std.specs.List.{Contains, list_all}
 use Rattle.std.proofs.lemmas.Bool.{ltb-true, leb-true, false≢true, false_from_ne_true}
-use Rattle.std.proofs.lemmas.List.{get_or_default}
-use Rattle.std.proofs.lemmas.List.Elements.{Contains-get_or}
 use Rattle.node_machine.specs.declared.Key.{Key}
 use Rattle.node_machine.specs.declared.Phase.{Phase}
 use Rattle.node_machine.specs.declared.MachineState.{MachineState}
 use Rattle.node_machine.specs.MachineState.{next_of}
 use Rattle.ready_queue.specs.declared.Member.{Member}
-use Rattle.ready_queue.specs.Queue.{ComesBefore, IsOrdered}
-use Rattle.ready_queue.proofs.Places.{trans, not-itself}
 use Rattle.throttles.specs.declared.Limits.{Limits}
 use Rattle.run_plan.specs.Plan.{Plan, node_at, count_of, all_below}
 use Rattle.run_plan.specs.Planned.{IsPlanned}
 use Rattle.run_plan.proofs.PlanFacts.{parents-below}
 use Rattle.node_machine.specs.declared.Record.{Record}
-use Rattle.sched_core.specs.Run.{key_at, next, is_done, outstanding, is_among, is_free, is_nothing, is_aborted, is_ready, is_final_ready, may_launch, is_lawful}
-use Rattle.sched_core.specs.Core.{Shows, node_progress, run_at, is_running, IsBestBelow}
+use Rattle.sched_core.specs.Run.{history, key_at, next, is_done, outstanding, is_among, is_free, is_nothing, is_aborted, is_ready, is_final_ready, may_launch, is_lawful}
+use Rattle.sched_core.specs.Core.{Shows, node_progress, run_at, is_running}
 use Rattle.sched_core.specs.Choices.{launchable, startable}
-use Rattle.sched_core.specs.Limits.{member_of, IsBetter}
+use Rattle.sched_core.specs.Limits.{member_of}
 use Rattle.sched_core.specs.Notes.{AreNotes, notes_at}
 use Rattle.sched_core.specs.States.{NodeStates, AreLeft, IsStateAt, IsStateOf, left_at, done_at, undone_in, is_ready_by, is_ready_at}
 use Rattle.sched_core.specs.declared.states.NodeState.{NodeState}
-use Rattle.sched_core.specs.Queued.{Classed, IsQueued, AreWaiting}
+use Rattle.ready_queue.specs.Queue.{Queue}
+use Rattle.node_machine.specs.NodeProgress.{NodeProgress}
+use Rattle.node_machine.specs.MachineState.{machine_after}
+use Rattle.sched_core.specs.Queued.{Classed, IsQueued, class_at, class_by, classes_of, members_at}
+use Rattle.sched_core.specs.Heads.{AreWaiting, class_of_next, next_phase}
+use Rattle.sched_core.proofs.Finished.{all_below-at}
+use Rattle.sched_core.proofs.Settling.{has-within}
 use Rattle.sched_core.proofs.Keys.{same-self, Each}
-use Rattle.sched_core.proofs.Sweeps.{all_below-from, all_below-not, all_below-same}
+use Rattle.sched_core.proofs.Sweeps.{all_below-from, all_below-same}
 use Rattle.sched_core.proofs.Held.{Within, outstanding-within}
-use Rattle.sched_core.proofs.Best.{startable-parts, startable-node}
+use Rattle.sched_core.proofs.Best.{startable-parts}
 use Rattle.sched_core.proofs.Sound.{Held, sound}
-use Rattle.sched_core.proofs.Shown.{machine-next, machine-done}
-use Rattle.sched_core.proofs.Moves.{launchable-next}
-use Rattle.sched_core.proofs.Leaf.{free-shown}
-use Rattle.ready_queue.proofs.Edits.{by_lt}
+use Rattle.sched_core.proofs.Shown.{machine-next, machine-done, next-phase}
+use Rattle.sched_core.proofs.Moves.{launchable-next, ready-next}
+use Rattle.sched_core.proofs.Leaf.{free-shown, key-node}
 use Rattle.sched_core.proofs.Undone.{none-left, undone-same}
 
 -- a state as the records have it
@@ -110,52 +111,58 @@ ready-at plan planned past states aborted jobs s notes left node lt =
     ready-shown plan past s.lawful node lt state
     (state-shown plan planned past states aborted jobs s notes left node state (omega (arith, lt)) (record { run = refl; notes = refl; left = refl })) aborted s.aborted_is
 
--- the members of a core's queue
-pub waiting-are : (plan : Plan) → IsPlanned plan → (past : List Record) (states : NodeStates) (aborted : Bool) (jobs : ℕ) → Shows plan past states.runs aborted jobs
-    → AreNotes plan past states.notes → AreLeft plan aborted states.runs states.left
-    → (classed : Classed) (members : List Member) → IsQueued plan aborted states.runs states.left classed → members ≡ classed.queue.members → IsOrdered classed.queue.members
-    → AreWaiting plan past members
-waiting-are plan planned past states aborted jobs s notes left classed members queued is ordered = subst (AreWaiting plan past) (sym is) (record {
-  ordered = ordered;
-  each = queued.are.each;
-  ready = λ node lt r. queued.ready node lt (at node lt ∙ r);
-  only = λ member has.
-      let own = queued.are.each member has in
-      sym (at member.node own.0) ∙ queued.only member.node own.0 (subst (Contains classed.queue.members) own.1 has);
-})
+module _ (plan : Plan) (planned : IsPlanned plan) (past : List Record) (states : NodeStates) (aborted : Bool) (jobs : ℕ) (s : Shows plan past states.runs aborted jobs)
+    (notes : AreNotes plan past states.notes) (left : AreLeft plan aborted states.runs states.left) where
+  -- a ready node's class is that of its next phase
+  class-same : (node : ℕ) → node < count_of plan → is_ready plan past node ≡ true → class_at plan states.runs node ≡ class_of_next plan past node
+  class-same node lt ready =
+      let key = ready-next plan past node ready in
+      let own : key.0.node ≡ node = key-node plan past node key.0 key.1 in
+      let phase : (run_at states.runs node).machine.phase ≡ Some key.0.phase =
+      ap (λ (r : NodeProgress). r.machine.phase) (s.runs_are node (omega (arith, lt)))
+      ∙ subst (λ n. (machine_after (node_at plan n).course (history past n)).phase ≡ Some key.0.phase) own
+      (next-phase plan past s.lawful key.0 (subst (λ n. next plan past n ≡ Some key.0) (sym own) key.1)) in
+      ap (λ (o : Option Phase). class_by o (node_at plan node).category) phase
+      ∙ ap (λ (o : Option Key). class_by (next_phase o) (node_at plan node).category) (sym key.1)
+
+  -- the members of a core's queues
+  pub waiting-are : (classed : Classed) → IsQueued plan aborted states.runs states.left classed → AreWaiting plan past classed.queues
+  waiting-are classed queued = record {
+    are = queued.are;
+    ready = λ node lt r. subst (λ c. Contains (members_at classed.queues c) (member_of plan node)) (class-same node lt r) (queued.ready node lt (at node lt ∙ r));
+    only = λ class w member has.
+        let own = (queued.are.each class w).each member has in
+        let here = queued.only class w member.node own.0 (subst (Contains (members_at classed.queues class)) own.1 has) in
+        let r : is_ready plan past member.node ≡ true = sym (at member.node own.0) ∙ here.0 in
+        (r, sym (class-same member.node own.0 r) ∙ here.1);
+  }
+    where
+      at : (node : ℕ) → node < count_of plan → is_ready_at plan aborted states.runs states.left node ≡ is_ready plan past node
+      at = ready-at plan planned past states aborted jobs s notes left
+
+-- none is ready just where there are no members
+pub none-ready : (plan : Plan) (past : List Record) (queues : List Queue) → AreWaiting plan past queues → (empty : Bool)
+    → (empty ≡ true → (class : ℕ) → class < length queues → members_at queues class ≡ []) → (((class : ℕ) → class < length queues → members_at queues class ≡ []) → empty ≡ true)
+    → empty ≡ all_below (λ node. not (is_ready plan past node)) (count_of plan)
+none-ready plan past queues are empty none back = go (all_below (λ node. not (is_ready plan past node)) (count_of plan)) refl
   where
-    at : (node : ℕ) → node < count_of plan → is_ready_at plan aborted states.runs states.left node ≡ is_ready plan past node
-    at = ready-at plan planned past states aborted jobs s notes left
+    here : (node : ℕ) → node < count_of plan → is_ready plan past node ≡ true → ((class : ℕ) → class < length queues → members_at queues class ≡ []) → ⊥
+    here node lt r all =
+        let has = are.ready node lt r in
+        let bad = (subst (λ ms. Contains ms (member_of plan node)) (all (class_of_next plan past node) (has-within queues (class_of_next plan past node) (member_of plan node) has)) has).1 in
+        omega (arith, bad)
 
--- members in order, ordinary nodes with their priorities, among which are all that are ready
-pub record HaveReady (plan : Plan) (past : List Record) (members : List Member) : Type 0 where
-  pub ordered : IsOrdered members
-  pub each : (member : Member) → Contains members member → (member.node < count_of plan) × (member ≡ member_of plan member.node)
-  pub ready : (node : ℕ) → node < count_of plan → is_ready plan past node ≡ true → Contains members (member_of plan node)
+    head : (queues : List Queue) (class : ℕ) (ms : List Member) → members_at queues class ≡ ms → ((member : Member) → Contains (members_at queues class) member → ⊥) → ms ≡ []
+    head queues class [] e nothing = refl
+    head queues class (m ∷ ms) e nothing = absurd (nothing m (subst (λ (l : List Member). Contains l m) (sym e) (zero, omega arith, refl)))
 
-pub have-ready : (plan : Plan) (past : List Record) (members : List Member) → AreWaiting plan past members → HaveReady plan past members
-have-ready plan past members are = record { ordered = are.ordered; each = are.each; ready = are.ready }
-
-pub waiting-node : (plan : Plan) (past : List Record) (members : List Member) (k : ℕ) (d : Member) → HaveReady plan past members → k < length members → (get_or members k d).node < count_of plan
-waiting-node plan past members k d are inside = (are.each (get_or members k d) (Contains-get_or members k d inside)).0
-
--- none is ready just where no member is
-pub none-ready : (plan : Plan) (past : List Record) (members : List Member) → AreWaiting plan past members
-    → (length members == 0) ≡ all_below (λ node. not (is_ready plan past node)) (count_of plan)
-none-ready plan past members are = go members refl
-  where
-    none : members ≡ [] → (node : ℕ) → node < count_of plan → not (is_ready plan past node) ≡ true
-    none e node lt = ap not (false_from_ne_true _ (λ t.
-        let has = subst (λ ms. Contains ms (member_of plan node)) e (are.ready node lt t) in
-        let bad = has.1 in omega (arith, bad)))
-
-    go : (ms : List Member) → members ≡ ms → (length members == 0) ≡ all_below (λ node. not (is_ready plan past node)) (count_of plan)
-    go [] e = ap (λ (xs : List Member). length xs == 0) e ∙ sym (all_below-from (λ node. not (is_ready plan past node)) (count_of plan) (none e))
-    go (m ∷ ms) e =
-        let has : Contains members m = subst (λ xs. Contains xs m) (sym e) (zero, omega arith, refl) in
-        ap (λ (xs : List Member). length xs == 0) e
-        ∙ false_from_ne_true _ (λ t. let l = eqb-true (length (m ∷ ms)) 0 t in omega (arith, l))
-        ∙ sym (all_below-not (λ node. not (is_ready plan past node)) (count_of plan) m.node (are.each m has).0 (ap not (are.only m has)))
+    go : (b : Bool) → all_below (λ node. not (is_ready plan past node)) (count_of plan) ≡ b → empty ≡ b
+    go true e = back (λ class w. head queues class (members_at queues class) refl (λ member has.
+        let inside : class < classes_of plan = (let m = are.are.many in omega (arith, w, m)) in
+        let own = (are.are.each class inside).each member has in
+        false≢true (sym (ap not (are.only class inside member has).0) ∙ all_below-at (λ node. not (is_ready plan past node)) (count_of plan) e member.node own.0)))
+    go false e = false_from_ne_true empty (λ t. false≢true (sym e ∙ all_below-from (λ node. not (is_ready plan past node)) (count_of plan)
+        (λ node lt. ap not (false_from_ne_true _ (λ r. here node lt r (none t))))))
 
 -- what may be launched of an ordinary node is ready
 pub launchable-ready : (plan : Plan) (past : List Record) (node : ℕ) (key : Key) → node < count_of plan → launchable plan past node ≡ Some key → is_ready plan past node ≡ true
@@ -173,47 +180,6 @@ ready-launchable plan past node key lt ready is =
 pub startable-ready : (limits : Limits) (plan : Plan) (past : List Record) (node : ℕ) (key : Key) → node < count_of plan → startable limits plan past node ≡ Some key → is_ready plan past node ≡ true
 startable-ready limits plan past node key lt e = launchable-ready plan past node key lt (startable-parts limits plan past node key e).0
 
--- where no member may be started, none may
-pub none-best : (limits : Limits) (plan : Plan) (past : List Record) (members : List Member) → HaveReady plan past members
-    → ((k : ℕ) (d : Member) → k < length members → startable limits plan past (get_or members k d).node ≡ None) → IsBestBelow limits plan past (count_of plan) None
-none-best limits plan past members are none node lt = go (startable limits plan past node) refl
-  where
-    go : (o : Option Key) → startable limits plan past node ≡ o → startable limits plan past node ≡ None
-    go None e = e
-    go (Some key) e =
-        let has = are.ready node lt (startable-ready limits plan past node key lt e) in
-        sym (ap (λ (m : Member). startable limits plan past m.node) has.2) ∙ none has.0 (member_of plan node) has.1
-
--- and the first that may be is the best
-pub first-best : (limits : Limits) (plan : Plan) (past : List Record) (members : List Member) (i : ℕ) (own : Member) (key : Key) → HaveReady plan past members → i < length members → get_or members i own ≡ own
-    → ((k : ℕ) (d : Member) → k < i → startable limits plan past (get_or members k d).node ≡ None) → startable limits plan past own.node ≡ Some key → IsBestBelow limits plan past (count_of plan) (Some key)
-first-best limits plan past members i own key are inside is none some = (
-  ap (startable limits plan past) at ∙ some,
-  subst (λ n. n < count_of plan) (sym at) (are.each own (i, inside, is)).0,
-  λ node other lt e better.
-      let has = are.ready node lt (startable-ready limits plan past node other lt e) in
-      by_lt has.0 i
-      (λ less.
-      let bad : None ≡ Some other = sym (none has.0 (member_of plan node) less) ∙ ap (λ (m : Member). startable limits plan past m.node) has.2 ∙ e in absurd cc)
-      (λ ge. by_lt i has.0
-      (λ more. not-itself own (trans own (member_of plan node) own (before node has.0 more has.1 has.2) (own-better node better)))
-      (λ le.
-      let k : has.0 ≡ i = omega (arith, ge, le) in
-      not-itself own (subst (λ m. ComesBefore m own) (sym has.2 ∙ ap (λ j. get_or members j (member_of plan node)) k ∙ get_or_default members i (member_of plan node) own inside ∙ is) (own-better node better)))),
-)
-  where
-    at : key.node ≡ own.node
-    at = startable-node limits plan past own.node key some
-
-    own-better : (node : ℕ) → IsBetter plan node key.node → ComesBefore (member_of plan node) own
-    own-better node better =
-        subst (ComesBefore (member_of plan node)) (ap (member_of plan) at ∙ sym (are.each own (i, inside, is)).1) better
-
-    before : (node k : ℕ) → i < k → k < length members → get_or members k (member_of plan node) ≡ member_of plan node → ComesBefore own (member_of plan node)
-    before node k lt len e =
-        subst (λ m. ComesBefore m (member_of plan node)) (get_or_default members i (member_of plan node) own inside ∙ is)
-        (subst (ComesBefore (get_or members i (member_of plan node))) e (are.ordered i k (member_of plan node) lt len))
-
 -- where FINAL's next phase is free, whatever is outstanding is an ordinary node's
 pub free-final : (plan : Plan) (past : List Record) → is_lawful plan past ≡ true → is_free plan past (next plan past (count_of plan)) ≡ true
     → is_nothing (outstanding plan past) ≡ list_all (λ (key : Key). nat_le (count_of plan) key.node) (outstanding plan past)
@@ -229,13 +195,6 @@ free-final plan past lawful free = go (outstanding plan past) refl (outstanding-
             let is : next plan past (count_of plan) ≡ Some key = ap (next plan past) (sym at) ∙ h.0.is_next in
             let among : is_among key (outstanding plan past) ≡ true = ap (is_among key) e ∙ (λ j. same-self key j || is_among key keys) in
             false≢true (sym (ap not among) ∙ ap (is_free plan past) (sym is) ∙ free))
-
--- one member more
-pub step-test : {A : Type 0} (f : ℕ → A) {v : A} (members : List Member) (i : ℕ) (z : Member) → i < length members → ((k : ℕ) (d : Member) → k < i → f (get_or members k d).node ≡ v)
-    → f (get_or members i z).node ≡ v → (k : ℕ) (d : Member) → k < i + 1 → f (get_or members k d).node ≡ v
-step-test f members i z inside before now k d lt =
-    by_lt k i (λ less. before k d less)
-    (λ ge. let e : k ≡ i = omega (arith, ge, lt) in ap (λ (m : Member). f m.node) (ap (λ j. get_or members j d) e ∙ get_or_default members i d z inside) ∙ now)
 
 -- nothing may be launched just where FINAL's next phase may not, and no ordinary node is ready
 pub nothing-launchable : (plan : Plan) (past : List Record) → (not (is_final_ready plan past) && all_below (λ node. not (is_ready plan past node)) (count_of plan))

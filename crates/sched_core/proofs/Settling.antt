@@ -1,20 +1,18 @@
 -- One node's state is put back, and the queue follows it.
-use Rattle.std.proofs.Common.{◌≡◌, ℕ, zero, suc, ◌+◌, ◌<◌, ◌≤◌, Bool, true, false, List, [], ◌∷◌, ◌++◌, length, unwrap_or, slice_set, refl, sym, ap, ◌∙◌, subst, arith}
-use Rattle.std.specs.Prelude.{slice_get, replicate}
+use Rattle.std.proofs.Common.{◌≡◌, ℕ, zero, suc, ◌+◌, ◌<◌, ◌≤◌, Bool, true, false, List, [], ◌∷◌, ◌++◌, ◌&&◌, ◌==◌, length, length-set, get_or, unwrap_or, slice_set, refl, sym, ap, ◌∙◌, subst, arith, eq-eqb, eqb-true}
+use Rattle.std.specs.Prelude.{slice_get}
 use Rattle.std.specs.List.{Contains}
-use Rattle.std.proofs.lemmas.Bool.{false≢true}
-use Rattle.std.proofs.lemmas.List.{length-replicate}
+use Rattle.std.proofs.lemmas.Bool.{false≢true, and_parts}
 use Rattle.node_machine.specs.NodeProgress.{NodeProgress}
 use Rattle.ready_queue.specs.declared.Member.{Member}
-use Rattle.ready_queue.specs.Queue.{Queue}
+use Rattle.ready_queue.specs.Queue.{Queue, IsOrdered}
 use Rattle.run_plan.specs.Plan.{Plan, node_at, count_of}
 use Rattle.sched_core.specs.Limits.{member_of}
 use Rattle.sched_core.specs.States.{is_ready_by, is_ready_at}
-use Rattle.sched_core.specs.Bound.{sum_below}
-use Rattle.sched_core.specs.Core.{run_at}
-use Rattle.sched_core.specs.Queued.{Classed, AreMembers, IsQueued, IsSet, class_by, classes_of, count_at, share, share_at}
+use Rattle.sched_core.specs.Queued.{Classed, AreMembers, AreQueues, AreRooms, count_at, IsQueued, IsSet, class_at, class_by, classes_of, members_at, no_queue, queue_at}
 use Rattle.ready_queue.proofs.Edits.{by_lt}
-use Rattle.sched_core.proofs.Shares.{by_same, sum-same, sum-moved, sum-has, sum-few, sum-none, share-few, share-own, none-at}
+use Rattle.sched_core.proofs.Members.{same-set}
+use Rattle.sched_core.proofs.Shares.{by_same}
 use Rattle.sched_core.proofs.Sweeps.{run_at-same, run_at-other}
 
 -- an element after its own change, after another's, and set to what it is
@@ -45,162 +43,201 @@ pub ready-other : (plan : Plan) (aborted : Bool) (runs : List NodeProgress) (lef
 ready-other plan aborted runs left node run l n ne =
     λ j. is_ready_by (node_at plan n).done aborted (run_at-other runs node run n ne j) (at-other left node l 0 n ne j)
 
-module _ (plan : Plan) (aborted : Bool) (runs : List NodeProgress) (left : List ℕ) (node : ℕ) (run : NodeProgress) (l : ℕ) where
-  -- another node's share
-  share-other : (class n : ℕ) → (node ≡ n → ⊥) → share_at plan aborted (slice_set runs node run) (slice_set left node l) class n ≡ share_at plan aborted runs left class n
-  share-other class n ne = λ j. share (ready-other plan aborted runs left node run l n ne j) (class_by (run_at-other runs node run n ne j).machine.phase (node_at plan n).category) class
+-- what holds of a value that is not false
+true-here : {P : Type 0} (b : Bool) → (b ≡ false → P → ⊥) → P → b ≡ true
+true-here true never p = refl
+true-here false never p = absurd (never refl p)
 
-  -- the counts, where the node's old share is taken out and its new one is put in
-  counts-settled : (old new : List ℕ) → length runs ≡ suc (count_of plan) → length left ≡ suc (count_of plan) → node < count_of plan → (was : Bool) (before : ℕ) (now : Bool) (class : ℕ)
-      → was ≡ is_ready_at plan aborted runs left node → before ≡ class_by (run_at runs node).machine.phase (node_at plan node).category → now ≡ is_ready_by (node_at plan node).done aborted run l → class ≡ class_by run.machine.phase (node_at plan node).category
-      → ((k : ℕ) → count_at old k ≡ sum_below (share_at plan aborted runs left k) (count_of plan)) → ((k : ℕ) → count_at new k + share was before k ≡ count_at old k + share now class k)
-      → (k : ℕ) → count_at new k ≡ sum_below (share_at plan aborted (slice_set runs node run) (slice_set left node l) k) (count_of plan)
-  counts-settled old new many many' lt was before now class w b n c counted moves k =
-      let moved = sum-moved (share_at plan aborted runs left k) (share_at plan aborted (slice_set runs node run) (slice_set left node l) k) node (count_of plan) lt (share-other k) in
-      let out : share was before k ≡ share_at plan aborted runs left k node = (λ j. share (w j) (b j) k) in
-      let back : share now class k ≡ share_at plan aborted (slice_set runs node run) (slice_set left node l) k node =
-      (λ j. share ((n ∙ sym (ready-own plan aborted runs left node run l (omega (arith, lt, many)) (omega (arith, lt, many')))) j)
-      ((c ∙ sym (ap (λ (r : NodeProgress). class_by r.machine.phase (node_at plan node).category) (run_at-same runs node run (omega (arith, lt, many))))) j) k) in
-      let is = counted k in let move = moves k in
-      omega (arith, moved, out, back, is, move)
+-- a class that has a member is one of the queues
+pub has-within : (queues : List Queue) (class : ℕ) (member : Member) → Contains (members_at queues class) member → class < length queues
+has-within [] class member has = let bad = has.1 in absurd (omega (arith, bad))
+has-within (q ∷ queues) zero member has = omega arith
+has-within (q ∷ queues) (suc class) member has = let lt = has-within queues class member has in omega (arith, lt)
+
+-- one queue changes
+pub queues-set : (plan : Plan) (queues : List Queue) (class : ℕ) (queue : Queue) → AreQueues plan queues → class < classes_of plan → AreMembers plan class queue → AreQueues plan (slice_set queues class queue)
+queues-set plan queues class queue are lt own = record {
+  many = length-set queues class queue ∙ are.many;
+  each = λ other w. by_same class other
+      (λ same. subst (λ c. AreMembers plan c (queue_at (slice_set queues class queue) c)) same
+      (subst (AreMembers plan class) (sym (at-same queues class queue no_queue (let m = are.many in omega (arith, lt, m)))) own))
+      (λ ne. subst (AreMembers plan other) (sym (at-other queues class queue no_queue other ne)) (are.each other w));
+}
+
+-- an element that is read, whatever the default
+pub get-at : {A : Type 0} (xs : List A) (i : ℕ) (d e : A) → i < length xs → get_or xs i d ≡ unwrap_or (slice_get xs i) e
+get-at [] i d e lt = absurd (omega (arith, lt))
+get-at (x ∷ xs) zero d e lt = refl
+get-at (x ∷ xs) (suc i) d e lt = get-at xs i d e (omega (arith, lt))
+
+-- one queue is read, and another is in its place then
+module _ (plan : Plan) (queues seen : List Queue) (same : queues ≡ seen) (are : AreQueues plan seen) (class : ℕ) (lt : class < classes_of plan) (old d : Queue) (is : old ≡ get_or queues class d) where
+  pub own-are : AreQueues plan queues
+  own-are = subst (AreQueues plan) (sym same) are
+
+  own-is : old ≡ queue_at queues class
+  own-is = is ∙ get-at queues class d no_queue (let m = own-are.many in omega (arith, lt, m))
+
+  pub own-members : AreMembers plan class old
+  own-members = subst (AreMembers plan class) (sym own-is) (own-are.each class lt)
+
+  pub absent-own : (member : Member) → (Contains (members_at seen class) member → ⊥) → Contains old.members member → ⊥
+  absent-own member absent has = absent (subst (λ qs. Contains (members_at qs class) member) same (subst (λ (q : Queue). Contains q.members member) own-is has))
+
+  pub own-new : (new : Queue) → queue_at (slice_set queues class new) class ≡ new
+  own-new new = at-same queues class new no_queue (let m = own-are.many in omega (arith, lt, m))
+
+  pub own-set : (node : ℕ) (now : Bool) (new : Queue) → IsSet plan node now old.members new.members → IsSet plan node now (members_at seen class) (members_at (slice_set queues class new) class)
+  own-set node now new set =
+      subst (λ (ms : List Member). IsSet plan node now ms (members_at (slice_set queues class new) class))
+      (ap (λ (q : Queue). q.members) own-is ∙ ap (λ qs. members_at qs class) same)
+      (subst (λ (q : Queue). IsSet plan node now old.members q.members) (sym (own-new new)) set)
+
+  pub own-others : (new : Queue) (other : ℕ) → (class ≡ other → ⊥) → queue_at (slice_set queues class new) other ≡ queue_at seen other
+  own-others new other ne = at-other queues class new no_queue other ne ∙ ap (λ qs. queue_at qs other) same
+
+-- one class's change seen from each class
+pub set-each : (plan : Plan) (node class : ℕ) (now : Bool) (old new : List Queue)
+    → IsSet plan node now (members_at old class) (members_at new class) → ((other : ℕ) → (class ≡ other → ⊥) → queue_at new other ≡ queue_at old other)
+    → ((other : ℕ) → (class ≡ other → ⊥) → Contains (members_at old other) (member_of plan node) → ⊥)
+    → (other : ℕ) → IsSet plan node (now && (class == other)) (members_at old other) (members_at new other)
+set-each plan node class now old new set others absent other = by_same class other
+    (λ same. subst (λ c. IsSet plan node (now && (class == c)) (members_at old c) (members_at new c)) same
+    (subst (λ b. IsSet plan node b (members_at old class) (members_at new class)) (with-own now) set))
+    (λ ne. subst (λ (q : Queue). IsSet plan node (now && (class == other)) (members_at old other) q.members) (sym (others other ne))
+    (same-set plan node (now && (class == other)) (members_at old other) (λ t. absurd (ne (eqb-true class other (and_parts now (class == other) t).1))) (λ f has. absent other ne has)))
+  where
+    with-own : (b : Bool) → b ≡ (b && (class == class))
+    with-own true = sym (eq-eqb class class refl)
+    with-own false = refl
+
+-- a member is taken out, and then put in or not
+pub set-after : (plan : Plan) (node : ℕ) (now : Bool) (old mid new : List Member) → IsSet plan node false old mid → IsSet plan node now mid new → IsSet plan node now old new
+set-after plan node now old mid new first next = record {
+  kept = λ member has differs. next.kept member (first.kept member has differs) differs;
+  others = λ member has differs. first.others member (next.others member has differs) differs;
+  there = next.there;
+  absent = next.absent;
+}
 
 module _ (plan : Plan) (aborted : Bool) (runs : List NodeProgress) (left : List ℕ) (node : ℕ) (run : NodeProgress) (l : ℕ) (old new : Classed)
     (many : length runs ≡ suc (count_of plan)) (many' : length left ≡ suc (count_of plan)) (queued : IsQueued plan aborted runs left old) where
+  abbrev runs' : List NodeProgress
+  runs' = slice_set runs node run
+
+  abbrev left' : List ℕ
+  left' = slice_set left node l
+
+  class-other : (n : ℕ) → (node ≡ n → ⊥) → class_at plan runs' n ≡ class_at plan runs n
+  class-other n ne = ap (λ (r : NodeProgress). class_by r.machine.phase (node_at plan n).category) (run_at-other runs node run n ne)
+
+  other-ready : (n : ℕ) → (node ≡ n → ⊥) → is_ready_at plan aborted runs' left' n ≡ is_ready_at plan aborted runs left n
+  other-ready n ne = ready-other plan aborted runs left node run l n ne
+
   -- an ordinary node's
-  pub settled : node < count_of plan → AreMembers plan new.queue → IsSet plan node (is_ready_by (node_at plan node).done aborted run l) old.queue.members new.queue.members
-      → length new.counts ≡ length old.counts → (was : Bool) (before : ℕ) (now : Bool) (class : ℕ)
-      → was ≡ is_ready_at plan aborted runs left node → before ≡ class_by (run_at runs node).machine.phase (node_at plan node).category → now ≡ is_ready_by (node_at plan node).done aborted run l → class ≡ class_by run.machine.phase (node_at plan node).category
-      → ((k : ℕ) → count_at new.counts k + share was before k ≡ count_at old.counts k + share now class k)
+  pub settled : node < count_of plan → AreQueues plan new.queues → (now : Bool) (class : ℕ) → class < classes_of plan
+      → now ≡ is_ready_by (node_at plan node).done aborted run l → class ≡ class_by run.machine.phase (node_at plan node).category
+      → ((other : ℕ) → other < classes_of plan → IsSet plan node (now && (class == other)) (members_at old.queues other) (members_at new.queues other))
       → IsQueued plan aborted (slice_set runs node run) (slice_set left node l) new
-  settled lt are one long was before now class w b n c moves = record {
+  settled lt are now class w n c set = record {
     are = are;
-    ready = λ n w ready. by_same node n
-        (λ same. subst (λ k. Contains new.queue.members (member_of plan k)) same (one.there (sym own ∙ subst (λ k. is_ready_at plan aborted (slice_set runs node run) (slice_set left node l) k ≡ true) (sym same) ready)))
-        (λ ne. one.kept (member_of plan n) (queued.ready n w (sym (ready-other plan aborted runs left node run l n ne) ∙ ready)) (λ e. ne (sym e)));
-    only = λ n w has. by_same node n
-        (λ same. subst (λ k. is_ready_at plan aborted (slice_set runs node run) (slice_set left node l) k ≡ true) same
-        (own ∙ true-here (is_ready_by (node_at plan node).done aborted run l) one.absent (subst (λ k. Contains new.queue.members (member_of plan k)) (sym same) has)))
-        (λ ne. ready-other plan aborted runs left node run l n ne ∙ queued.only n w (one.others (member_of plan n) has (λ e. ne (sym e))));
-    many = long ∙ queued.many;
-    counted = counts-settled plan aborted runs left node run l old.counts new.counts many many' lt was before now class w b n c queued.counted moves;
+    ready = λ k low ready. by_same node k
+        (λ same.
+        let is : now ≡ true = n ∙ sym own ∙ subst (λ m. is_ready_at plan aborted runs' left' m ≡ true) (sym same) ready in
+        subst (λ m. Contains (members_at new.queues (class_at plan runs' m)) (member_of plan m)) same
+        (subst (λ m. Contains (members_at new.queues m) (member_of plan node)) (sym class-own) ((set class w).there (λ j. is j && eq-eqb class class refl j))))
+        (λ ne.
+        let was = queued.ready k low (sym (other-ready k ne) ∙ ready) in
+        let inside : class_at plan runs k < classes_of plan = (let i = has-within old.queues (class_at plan runs k) (member_of plan k) was in let m = queued.are.many in omega (arith, i, m)) in
+        subst (λ m. Contains (members_at new.queues m) (member_of plan k)) (sym (class-other k ne)) ((set (class_at plan runs k) inside).kept (member_of plan k) was (λ e. ne (sym e))));
+    only = λ other inside k low has. by_same node k
+        (λ same.
+        let is = and_parts now (class == other) (true-here (now && (class == other)) (set other inside).absent (subst (λ m. Contains (members_at new.queues other) (member_of plan m)) (sym same) has)) in
+        subst (λ m. (is_ready_at plan aborted runs' left' m ≡ true) × (class_at plan runs' m ≡ other)) same (own ∙ sym n ∙ is.0, class-own ∙ eqb-true class other is.1))
+        (λ ne.
+        let was = queued.only other inside k low ((set other inside).others (member_of plan k) has (λ e. ne (sym e))) in (other-ready k ne ∙ was.0, class-other k ne ∙ was.1));
   }
     where
-      own : is_ready_at plan aborted (slice_set runs node run) (slice_set left node l) node ≡ is_ready_by (node_at plan node).done aborted run l
+      own : is_ready_at plan aborted runs' left' node ≡ is_ready_by (node_at plan node).done aborted run l
       own = ready-own plan aborted runs left node run l (omega (arith, lt, many)) (omega (arith, lt, many'))
 
-      true-here : {P : Type 0} (b : Bool) → (b ≡ false → P → ⊥) → P → b ≡ true
-      true-here true never p = refl
-      true-here false never p = absurd (never refl p)
+      class-own : class_at plan runs' node ≡ class
+      class-own = ap (λ (r : NodeProgress). class_by r.machine.phase (node_at plan node).category) (run_at-same runs node run (omega (arith, lt, many))) ∙ sym c
 
   -- FINAL's
   pub settled-final : count_of plan ≤ node → IsQueued plan aborted (slice_set runs node run) (slice_set left node l) old
   settled-final ge = record {
     are = queued.are;
-    ready = λ n w ready. queued.ready n w (sym (ready-other plan aborted runs left node run l n (λ e. omega (arith, e, ge, w))) ∙ ready);
-    only = λ n w has. ready-other plan aborted runs left node run l n (λ e. omega (arith, e, ge, w)) ∙ queued.only n w has;
-    many = queued.many;
-    counted = λ k. queued.counted k
-        ∙ sym (sum-same (share_at plan aborted runs left k) (share_at plan aborted (slice_set runs node run) (slice_set left node l) k) (count_of plan)
-        (λ n w. share-other plan aborted runs left node run l k n (λ e. omega (arith, e, ge, w))));
+    ready = λ k low ready.
+        let ne : node ≡ k → ⊥ = λ e. omega (arith, e, ge, low) in
+        subst (λ m. Contains (members_at old.queues m) (member_of plan k)) (sym (class-other k ne)) (queued.ready k low (sym (other-ready k ne) ∙ ready));
+    only = λ other inside k low has.
+        let ne : node ≡ k → ⊥ = λ e. omega (arith, e, ge, low) in
+        let was = queued.only other inside k low has in (other-ready k ne ∙ was.0, class-other k ne ∙ was.1);
   }
 
--- a node that is ready counts for its class
-pub counted-some : (plan : Plan) (aborted : Bool) (runs : List NodeProgress) (left : List ℕ) (counts : List ℕ) (node class : ℕ)
-    → ((k : ℕ) → count_at counts k ≡ sum_below (share_at plan aborted runs left k) (count_of plan)) → node < count_of plan
-    → is_ready_at plan aborted runs left node ≡ true → class_by (run_at runs node).machine.phase (node_at plan node).category ≡ class → 0 < count_at counts class
-counted-some plan aborted runs left counts node class counted lt ready is =
-    let one : share_at plan aborted runs left class node ≡ 1 = (λ j. share (is_ready_at plan aborted runs left node) (is j) class) ∙ share-own (is_ready_at plan aborted runs left node) class ready in
-    let some = sum-has (share_at plan aborted runs left class) node (count_of plan) lt in
-    let sum = counted class in
-    omega (arith, one, some, sum)
-
--- and no count is greater than the number of nodes
-pub counted-few : (plan : Plan) (aborted : Bool) (runs : List NodeProgress) (left : List ℕ) (counts : List ℕ)
-    → ((k : ℕ) → count_at counts k ≡ sum_below (share_at plan aborted runs left k) (count_of plan)) → (class : ℕ) → count_at counts class ≤ count_of plan
-counted-few plan aborted runs left counts counted class =
-    let few = sum-few (share_at plan aborted runs left class) (λ k. share-few (is_ready_at plan aborted runs left k) (class_by (run_at runs k).machine.phase (node_at plan k).category) class) (count_of plan) in
-    let sum = counted class in
-    omega (arith, few, sum)
-
 -- a queue that was emptied
-pub none-members : (plan : Plan) (old new : Queue) → AreMembers plan old → new.members ≡ [] → old.room + length old.members ≤ new.room → AreMembers plan new
-none-members plan old new are none room = record {
+pub none-members : (plan : Plan) (class : ℕ) (old new : Queue) → AreMembers plan class old → new.members ≡ [] → old.room + length old.members ≤ new.room → AreMembers plan class new
+none-members plan class old new are none room = record {
+  ordered = subst IsOrdered (sym none) (λ i j d lt len. absurd (omega (arith, len)));
   each = λ member has. let bad = (subst (λ ms. Contains ms member) none has).1 in absurd (omega (arith, bad));
   room = let had = are.room in let now = ap (λ (l : List Member). length l) none in omega (arith, had, now, room);
 }
 
 -- after an abort nothing is ready
-pub cleared : (plan : Plan) (runs : List NodeProgress) (left : List ℕ) (classed : Classed) → AreMembers plan classed.queue → classed.queue.members ≡ [] → classed.counts ≡ replicate (classes_of plan) 0
+pub cleared : (plan : Plan) (runs : List NodeProgress) (left : List ℕ) (classed : Classed) → AreQueues plan classed.queues → ((class : ℕ) → class < classes_of plan → members_at classed.queues class ≡ [])
     → IsQueued plan true runs left classed
-cleared plan runs left classed are none counts = record {
+cleared plan runs left classed are none = record {
   are = are;
   ready = λ node lt ready. absurd (false≢true ready);
-  only = λ node lt has. let bad = (subst (λ ms. Contains ms (member_of plan node)) none has).1 in absurd (omega (arith, bad));
-  many = ap (λ (l : List ℕ). length l) counts ∙ length-replicate (classes_of plan) 0;
-  counted = λ k. ap (λ (l : List ℕ). count_at l k) counts ∙ none-at (classes_of plan) k ∙ sym (sum-none (count_of plan));
+  only = λ class w node lt has. let bad = (subst (λ ms. Contains ms (member_of plan node)) (none class w) has).1 in absurd (omega (arith, bad));
 }
 
--- one node more in a queue that is filled
+-- one node more in queues that are filled
 pub record IsFilled (plan : Plan) (runs : List NodeProgress) (left : List ℕ) (n : ℕ) (classed : Classed) : Type 0 where
-  pub are : AreMembers plan classed.queue
-  pub ready : (node : ℕ) → node < n → is_ready_at plan false runs left node ≡ true → Contains classed.queue.members (member_of plan node)
-  pub only : (member : Member) → Contains classed.queue.members member → (member.node < n) × (is_ready_at plan false runs left member.node ≡ true)
-  pub many : length classed.counts ≡ classes_of plan
-  pub counted : (class : ℕ) → count_at classed.counts class ≡ sum_below (share_at plan false runs left class) n
+  pub are : AreQueues plan classed.queues
+  pub ready : (node : ℕ) → node < n → is_ready_at plan false runs left node ≡ true → Contains (members_at classed.queues (class_at plan runs node)) (member_of plan node)
+  pub only : (class : ℕ) → class < classes_of plan → (member : Member) → Contains (members_at classed.queues class) member
+      → (member.node < n) × (is_ready_at plan false runs left member.node ≡ true) × (class_at plan runs member.node ≡ class)
 
-pub fill-none : (plan : Plan) (runs : List NodeProgress) (left : List ℕ) (classed : Classed) → AreMembers plan classed.queue → classed.queue.members ≡ [] → classed.counts ≡ replicate (classes_of plan) 0
+pub fill-none : (plan : Plan) (runs : List NodeProgress) (left : List ℕ) (classed : Classed) → AreQueues plan classed.queues → ((class : ℕ) → class < classes_of plan → members_at classed.queues class ≡ [])
     → IsFilled plan runs left 0 classed
-fill-none plan runs left classed are none counts = record {
+fill-none plan runs left classed are none = record {
   are = are;
   ready = λ node lt ready. absurd (omega (arith, lt));
-  only = λ member has. let bad = (subst (λ ms. Contains ms member) none has).1 in absurd (omega (arith, bad));
-  many = ap (λ (l : List ℕ). length l) counts ∙ length-replicate (classes_of plan) 0;
-  counted = λ k. ap (λ (l : List ℕ). count_at l k) counts ∙ none-at (classes_of plan) k;
+  only = λ class w member has. let bad = (subst (λ ms. Contains ms member) (none class w) has).1 in absurd (omega (arith, bad));
 }
 
-pub fill-few : (plan : Plan) (runs : List NodeProgress) (left : List ℕ) (n : ℕ) (classed : Classed) → IsFilled plan runs left n classed → n ≤ count_of plan → (class : ℕ) → count_at classed.counts class ≤ count_of plan
-fill-few plan runs left n classed filled le class =
-    let few = sum-few (share_at plan false runs left class) (λ k. share-few (is_ready_at plan false runs left k) (class_by (run_at runs k).machine.phase (node_at plan k).category) class) n in
-    let sum = filled.counted class in
-    omega (arith, few, sum, le)
-
-pub fill-more : (plan : Plan) (runs : List NodeProgress) (left : List ℕ) (i : ℕ) (old new : Classed) → IsFilled plan runs left i old → AreMembers plan new.queue
-    → IsSet plan i (is_ready_at plan false runs left i) old.queue.members new.queue.members → length new.counts ≡ length old.counts → (class : ℕ) → class ≡ class_by (run_at runs i).machine.phase (node_at plan i).category
-    → ((k : ℕ) → count_at new.counts k ≡ count_at old.counts k + share (is_ready_at plan false runs left i) class k)
+pub fill-more : (plan : Plan) (runs : List NodeProgress) (left : List ℕ) (i : ℕ) (old new : Classed) → IsFilled plan runs left i old → AreQueues plan new.queues → (class : ℕ) → class < classes_of plan → class ≡ class_at plan runs i
+    → ((other : ℕ) → other < classes_of plan → IsSet plan i (is_ready_at plan false runs left i && (class == other)) (members_at old.queues other) (members_at new.queues other))
     → IsFilled plan runs left (i + 1) new
-fill-more plan runs left i old new before are one long class is moves = record {
+fill-more plan runs left i old new before are class w c set = record {
   are = are;
-  ready = λ n lt ready. by_same i n
-      (λ same. subst (λ k. Contains new.queue.members (member_of plan k)) same (one.there (subst (λ k. is_ready_at plan false runs left k ≡ true) (sym same) ready)))
-      (λ ne. one.kept (member_of plan n) (before.ready n (by_lt n i (λ less. less) (λ ge. absurd (ne (omega (arith, ge, lt))))) ready) (λ e. ne (sym e)));
-  only = λ m has. by_same i m.node
+  ready = λ k lt ready. by_same i k
+      (λ same. subst (λ m. Contains (members_at new.queues (class_at plan runs m)) (member_of plan m)) same
+      (subst (λ m. Contains (members_at new.queues m) (member_of plan i)) c
+      ((set class w).there (λ j. (subst (λ m. is_ready_at plan false runs left m ≡ true) (sym same) ready) j && eq-eqb class class refl j))))
+      (λ ne.
+      let was = before.ready k (by_lt k i (λ less. less) (λ ge. absurd (ne (omega (arith, ge, lt))))) ready in
+      let inside : class_at plan runs k < classes_of plan = (let j = has-within old.queues (class_at plan runs k) (member_of plan k) was in let m = before.are.many in omega (arith, j, m)) in
+      (set (class_at plan runs k) inside).kept (member_of plan k) was (λ e. ne (sym e)));
+  only = λ other inside member has. by_same i member.node
       (λ same.
-      let own : m ≡ member_of plan i = (are.each m has).1 ∙ ap (member_of plan) (sym same) in (
+      let is : member ≡ member_of plan i = ((are.each other inside).each member has).1 ∙ ap (member_of plan) (sym same) in
+      let own = and_parts (is_ready_at plan false runs left i) (class == other)
+      (true-here (is_ready_at plan false runs left i && (class == other)) (set other inside).absent (subst (Contains (members_at new.queues other)) is has)) in (
         omega (arith, same),
-        subst (λ k. is_ready_at plan false runs left k ≡ true) same
-            (true-here (is_ready_at plan false runs left i) one.absent (subst (Contains new.queue.members) own has)),
+        subst (λ m. is_ready_at plan false runs left m ≡ true) same own.0,
+        ap (class_at plan runs) (sym same) ∙ sym c ∙ eqb-true class other own.1,
       ))
-      (λ ne. let was = before.only m (one.others m has (λ e. ne (sym e))) in (let lt = was.0 in omega (arith, lt), was.1));
-  many = long ∙ before.many;
-  counted = λ k.
-      let move = moves k in let sum = before.counted k in
-      let own : share (is_ready_at plan false runs left i) class k ≡ share_at plan false runs left k i = (λ j. share (is_ready_at plan false runs left i) (is j) k) in
-      let more : sum_below (share_at plan false runs left k) (i + 1) ≡ share_at plan false runs left k i + sum_below (share_at plan false runs left k) i =
-      ap (sum_below (share_at plan false runs left k)) (let e : i + 1 ≡ suc i = omega arith in e) in
-      omega (arith, move, sum, own, more);
+      (λ ne. let was = before.only other inside member ((set other inside).others member has (λ e. ne (sym e))) in (let lt = was.0 in omega (arith, lt), was.1, was.2));
 }
-  where
-    true-here : {P : Type 0} (b : Bool) → (b ≡ false → P → ⊥) → P → b ≡ true
-    true-here true never p = refl
-    true-here false never p = absurd (never refl p)
 
 pub filled-queued : (plan : Plan) (runs : List NodeProgress) (left : List ℕ) (n : ℕ) (classed : Classed) → n ≡ count_of plan → IsFilled plan runs left n classed → IsQueued plan false runs left classed
 filled-queued plan runs left n classed all filled = record {
   are = filled.are;
   ready = λ node lt ready. filled.ready node (omega (arith, all, lt)) ready;
-  only = λ node lt has. (filled.only (member_of plan node) has).1;
-  many = filled.many;
-  counted = λ k. filled.counted k ∙ ap (sum_below (share_at plan false runs left k)) all;
+  only = λ class w node lt has. let own = filled.only class w (member_of plan node) has in (own.1, own.2);
 }
 
 -- elements after one more
@@ -220,3 +257,27 @@ pub each-more : {A : Type 0} (f : ℕ → A) (xs : List A) (x d : A) (n : ℕ) �
 each-more f xs x d n long before now k lt =
     by_lt k n (λ less. at-before xs x d k (omega (arith, less, long)) ∙ before k less)
     (λ ge. let e : n ≡ k = omega (arith, ge, lt) in at-end xs x d k (omega (arith, e, long)) ∙ now ∙ ap f e)
+
+-- queues without members, with room for all that may wait in them
+pub new-queues : (plan : Plan) (counts : List ℕ) (queues : List Queue) → AreRooms plan counts → length queues ≡ length counts
+    → ((k : ℕ) → k < length queues → (members_at queues k ≡ []) × (suc (count_at counts k) ≤ (queue_at queues k).room)) → AreQueues plan queues
+new-queues plan counts queues rooms many each = record {
+  many = many ∙ rooms.many;
+  each = λ class w.
+      let own = each class (let m = rooms.many in omega (arith, w, m, many)) in
+      record {
+        ordered = subst IsOrdered (sym own.0) (λ i j d lt len. absurd (omega (arith, len)));
+        each = λ member has. let bad = (subst (λ ms. Contains ms member) own.0 has).1 in absurd (omega (arith, bad));
+        room = let few = rooms.each class w in let room = own.1 in let none = ap (λ (l : List Member). length l) own.0 in omega (arith, few, room, none);
+      };
+}
+
+pub queue-more : (counts : List ℕ) (queues more : List Queue) (queue : Queue) (n : ℕ) → length queues ≡ n → more ≡ queues ++ queue ∷ []
+    → ((k : ℕ) → k < n → (members_at queues k ≡ []) × (suc (count_at counts k) ≤ (queue_at queues k).room)) → queue.members ≡ [] → suc (count_at counts n) ≤ queue.room
+    → (k : ℕ) → k < n + 1 → (members_at more k ≡ []) × (suc (count_at counts k) ≤ (queue_at more k).room)
+queue-more counts queues more queue n long is each none room k lt =
+    subst (λ (q : Queue). (q.members ≡ []) × (suc (count_at counts k) ≤ q.room)) (sym (ap (λ qs. queue_at qs k) is))
+    (by_lt k n (λ less. subst (λ (q : Queue). (q.members ≡ []) × (suc (count_at counts k) ≤ q.room)) (sym (at-before queues queue no_queue k (omega (arith, less, long)))) (each k less))
+    (λ ge.
+    let e : n ≡ k = omega (arith, ge, lt) in
+    subst (λ (q : Queue). (q.members ≡ []) × (suc (count_at counts k) ≤ q.room)) (sym (at-end queues queue no_queue k (omega (arith, e, long)))) (none, subst (λ m. suc (count_at counts m) ≤ queue.room) e room)))

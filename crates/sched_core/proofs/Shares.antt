@@ -1,12 +1,12 @@
--- How many ready nodes there are of each class, as sums.
-use Rattle.std.proofs.Common.{◌≡◌, ℕ, zero, suc, ◌+◌, ◌<◌, ◌≤◌, Bool, true, false, ◌&&◌, ◌==◌, refl, ap, arith, eq-eqb, eqb-true, if◌then◌else◌, List, [], ◌∷◌, length, get_or, Option, Some, None}
-use Rattle.std.specs.Prelude.{replicate, IfSome}
-use Rattle.std.proofs.lemmas.Bool.{eqb-false}
-use Rattle.ready_queue.proofs.Edits.{by_lt}
+-- How many nodes there are of each class, as sums.
+use Rattle.std.proofs.Common.{◌≡◌, ℕ, zero, suc, ◌+◌, ◌<◌, ◌≤◌, Bool, true, false, ◌||◌, ◌==◌, refl, arith, eq-eqb, eqb-true, if◌then◌else◌, List, [], ◌∷◌, length, get_or, Option, Some, None}
+use Rattle.std.specs.Prelude.{replicate, slice_set, IfSome}
+use Rattle.std.proofs.lemmas.Bool.{eqb-false, false_from_ne_true}
 use Rattle.sched_core.specs.Bound.{sum_below}
 use Rattle.node_machine.specs.declared.Phase.{Phase}
 use Rattle.node_machine.specs.declared.Phase.TheVariants.{Pre, Job, Post}
-use Rattle.sched_core.specs.Queued.{count_at, share, class_of}
+use Rattle.run_plan.specs.Plan.{Plan, node_at, count_of}
+use Rattle.sched_core.specs.Queued.{AreRooms, candidates, class_of, classes_of, count_at, may_be_of, share}
 
 -- of two numbers, whether they are one
 pub by_same : {P : Type 0} (a b : ℕ) → (a ≡ b → P) → ((a ≡ b → ⊥) → P) → P
@@ -16,45 +16,9 @@ by_same {P} a b same other = go (a == b) refl
     go true e = same (eqb-true a b e)
     go false e = other (eqb-false a b e)
 
--- sums of which one part alone may differ
 pub sum-same : (f g : ℕ → ℕ) (n : ℕ) → ((k : ℕ) → k < n → g k ≡ f k) → sum_below g n ≡ sum_below f n
 sum-same f g zero same = refl
 sum-same f g (suc n) same = λ j. same n (omega arith) j + sum-same f g n (λ k lt. same k (omega (arith, lt))) j
-
-pub sum-moved : (f g : ℕ → ℕ) (i n : ℕ) → i < n → ((k : ℕ) → (i ≡ k → ⊥) → g k ≡ f k) → sum_below g n + f i ≡ sum_below f n + g i
-sum-moved f g i zero lt same = absurd (omega (arith, lt))
-sum-moved f g i (suc n) lt same = by_same i n here (later (λ less. sum-moved f g i n less same))
-  where
-    here : i ≡ n → (g n + sum_below g n) + f i ≡ (f n + sum_below f n) + g i
-    here e =
-        let below = sum-same f g n (λ k less. same k (λ w. omega (arith, e, less, w))) in
-        let own = ap g e in let own' = ap f e in omega (arith, below, own, own')
-
-    later : (i < n → sum_below g n + f i ≡ sum_below f n + g i) → (i ≡ n → ⊥) → (g n + sum_below g n) + f i ≡ (f n + sum_below f n) + g i
-    later below ne =
-        let less : i < n = by_lt i n (λ l. l) (λ ge. absurd (ne (omega (arith, ge, lt)))) in
-        let before = below less in
-        let at = same n ne in omega (arith, before, at)
-
-pub sum-has : (f : ℕ → ℕ) (i n : ℕ) → i < n → f i ≤ sum_below f n
-sum-has f i zero lt = absurd (omega (arith, lt))
-sum-has f i (suc n) lt = by_same i n here (later (sum-has f i n))
-  where
-    here : i ≡ n → f i ≤ f n + sum_below f n
-    here e = let own = ap f e in omega (arith, own)
-
-    later : (i < n → f i ≤ sum_below f n) → (i ≡ n → ⊥) → f i ≤ f n + sum_below f n
-    later below ne =
-        let less : i < n = by_lt i n (λ l. l) (λ ge. absurd (ne (omega (arith, ge, lt)))) in
-        let before = below less in omega (arith, before)
-
-pub sum-some : (f : ℕ → ℕ) (n : ℕ) → 0 < sum_below f n → (k : ℕ) × (k < n) × (0 < f k)
-sum-some f zero some = absurd (omega (arith, some))
-sum-some f (suc n) some = go (sum-some f n)
-  where
-    go : (0 < sum_below f n → (k : ℕ) × (k < n) × (0 < f k)) → (k : ℕ) × (k < suc n) × (0 < f k)
-    go before = by_lt 0 (f n) (λ own. (n, omega arith, own))
-        (λ none. let k = before (omega (arith, none, some)) in let lt = k.1 in (k.0, omega (arith, lt), k.2))
 
 pub sum-few : (f : ℕ → ℕ) → ((k : ℕ) → f k ≤ 1) → (n : ℕ) → sum_below f n ≤ n
 sum-few f one zero = omega arith
@@ -64,24 +28,18 @@ pub sum-none : (n : ℕ) → sum_below (λ k. 0) n ≡ 0
 sum-none zero = refl
 sum-none (suc n) = let before = sum-none n in omega (arith, before)
 
--- one node's share
-pub share-few : (ready : Bool) (own class : ℕ) → share ready own class ≤ 1
-share-few ready own class = go (ready && (own == class))
+pub share-own : (class : ℕ) → share class class ≡ 1
+share-own class = λ j. if eq-eqb class class refl j then 1 else 0
+
+pub share-other : (own class : ℕ) → (own ≡ class → ⊥) → share own class ≡ 0
+share-other own class ne = λ j. if false_from_ne_true (own == class) (λ t. ne (eqb-true own class t)) j then 1 else 0
+
+pub share-few : (own class : ℕ) → share own class ≤ 1
+share-few own class = go (own == class)
   where
     go : (b : Bool) → (if b then 1 else 0) ≤ 1
     go true = omega arith
     go false = omega arith
-
-pub share-own : (ready : Bool) (own : ℕ) → ready ≡ true → share ready own own ≡ 1
-share-own ready own is = λ j. if is j && eq-eqb own own refl j then 1 else 0
-
-pub share-some : (ready : Bool) (own class : ℕ) → 0 < share ready own class → (ready ≡ true) × (own ≡ class)
-share-some ready own class some = go ready refl (own == class) refl some
-  where
-    go : (r : Bool) → ready ≡ r → (b : Bool) → (own == class) ≡ b → 0 < (if r && b then 1 else 0) → (ready ≡ true) × (own ≡ class)
-    go true e true f some = (e, eqb-true own class f)
-    go true e false f some = absurd (omega (arith, some))
-    go false e b f some = absurd (omega (arith, some))
 
 -- counts that are all none
 pub none-at : (n k : ℕ) → count_at (replicate n 0) k ≡ 0
@@ -106,3 +64,38 @@ pub get-count : (counts : List ℕ) (class d : ℕ) → class < length counts �
 get-count [] class d lt = absurd (omega (arith, lt))
 get-count (c ∷ counts) zero d lt = refl
 get-count (c ∷ counts) (suc class) d lt = get-count counts class d (omega (arith, lt))
+
+-- as many nodes wait in the queue of a class of jobs as have such jobs
+pub job-candidates : (plan : Plan) (class : ℕ) → 1 < class → candidates plan class ≡ sum_below (λ node. share (class_of Job (node_at plan node).category) class) (count_of plan)
+job-candidates plan class jobs =
+    sum-same (λ node. share (class_of Job (node_at plan node).category) class) (λ node. if may_be_of plan class node then 1 else 0) (count_of plan)
+    (λ node lt. λ j. if not-pre j || (not-post j || (class_of Job (node_at plan node).category == class)) then 1 else 0)
+  where
+    not-pre : (class == 0) ≡ false
+    not-pre = false_from_ne_true (class == 0) (λ t. let e = eqb-true class 0 t in omega (arith, e, jobs))
+
+    not-post : (class == 1) ≡ false
+    not-post = false_from_ne_true (class == 1) (λ t. let e = eqb-true class 1 t in omega (arith, e, jobs))
+
+pub candidates-few : (plan : Plan) (class : ℕ) → candidates plan class ≤ count_of plan
+candidates-few plan class = sum-few (λ node. if may_be_of plan class node then 1 else 0) (λ k. one (may_be_of plan class k)) (count_of plan)
+  where
+    one : (b : Bool) → (if b then 1 else 0) ≤ 1
+    one true = omega arith
+    one false = omega arith
+
+-- room for all nodes in the queues of scripts, and for those that are counted in the others
+pub rooms-are : (plan : Plan) (counts : List ℕ) → length counts ≡ classes_of plan
+    → ((class : ℕ) → count_at counts class ≡ sum_below (λ node. share (class_of Job (node_at plan node).category) class) (count_of plan))
+    → (n m : ℕ) → n ≡ count_of plan → m ≡ count_of plan → AreRooms plan (slice_set (slice_set counts 0 n) 1 m)
+rooms-are plan [] many counted n m is its = let e = many in absurd (omega (arith, e))
+rooms-are plan (a ∷ []) many counted n m is its = let e = many in absurd (omega (arith, e))
+rooms-are plan (a ∷ b ∷ counts) many counted n m is its = record {
+  many = many;
+  each = λ class w. go class w;
+}
+  where
+    go : (class : ℕ) → class < classes_of plan → candidates plan class ≤ count_at (n ∷ m ∷ counts) class
+    go zero w = let few = candidates-few plan 0 in omega (arith, few, is)
+    go (suc zero) w = let few = candidates-few plan 1 in omega (arith, few, its)
+    go (suc (suc class)) w = let all = job-candidates plan (suc (suc class)) (omega arith) in let own = counted (suc (suc class)) in omega (arith, all, own)

@@ -1,11 +1,12 @@
 -- A core as contracts see it, and what it keeps beside its records.
-use Rattle.std.specs.Prelude.{◌≡◌, ℕ, suc, ◌+◌, ◌<◌, Bool, true, false, not, ◌&&◌, ◌||◌, List, [], ◌∷◌, length, map, Option, Some, None, is_none, nat_lt, unwrap_or, slice_get, slice_set, IsTrue, int_lt, ◌==◌, if◌then◌else◌}
+use Rattle.std.specs.Prelude.{◌≡◌, ℕ, suc, ◌+◌, ◌<◌, Bool, true, false, not, ◌&&◌, ◌||◌, List, [], ◌∷◌, length, map, Option, Some, None, is_none, nat_lt, unwrap_or, slice_get, slice_set, IsTrue, ◌==◌, if◌then◌else◌}
 use Rattle.node_machine.specs.declared.Key.{Key}
 use Rattle.node_machine.specs.Story.{phase_number}
 use Rattle.node_machine.specs.MachineState.{machine_after, machine_before, next_of}
 use Rattle.node_machine.specs.NodeRun.{started, stopped, ended_with}
 use Rattle.throttles.specs.declared.Limits.{Limits}
-use Rattle.sched_core.specs.Limits.{IsBetter}
+use Rattle.ready_queue.specs.Queue.{comes_before}
+use Rattle.sched_core.specs.Limits.{member_of, IsBetter}
 use Rattle.sched_core.specs.Choices.{startable}
 use Rattle.run_plan_node.specs.Node.{no_node}
 use Rattle.run_plan.specs.Plan.{Plan, node_at, count_of, all_below}
@@ -115,18 +116,22 @@ pub record AreFresh (plan : Plan) (runs : List NodeProgress) : Type 0 where
 abbrev pub fault_after : List Record → CoreFault
 fault_after past = if is_over past then Finished else NotLawful
 
--- of the nodes below a number the best whose phase may be launched and is let in, if there is one
-abbrev pub IsBestBelow : Limits → Plan → List Record → ℕ → Option Key → Type 0
-IsBestBelow limits plan past n None = (node : ℕ) → node < n → startable limits plan past node ≡ None
-IsBestBelow limits plan past n (Some key) =
-    (startable limits plan past key.node ≡ Some key) × (key.node < n)
-    × ((node : ℕ) (other : Key) → node < n → startable limits plan past node ≡ Some other → IsBetter plan node key.node → ⊥)
+-- of the nodes of which this holds the best whose phase may be launched and is let in, if there is one
+abbrev pub IsBestOf : Limits → Plan → List Record → (ℕ → Type 0) → Option Key → Type 0
+IsBestOf limits plan past those None = (node : ℕ) → those node → startable limits plan past node ≡ None
+IsBestOf limits plan past those (Some key) =
+    (startable limits plan past key.node ≡ Some key) × those key.node
+    × ((node : ℕ) (other : Key) → those node → startable limits plan past node ≡ Some other → IsBetter plan node key.node → ⊥)
 
--- the better of two phases, of which the second is of a later node
+-- of the nodes below a number
+abbrev pub IsBestBelow : Limits → Plan → List Record → ℕ → Option Key → Type 0
+IsBestBelow limits plan past n best = IsBestOf limits plan past (λ node. node < n) best
+
+-- the better of two phases
 abbrev pub better_of : Plan → Option Key → Option Key → Option Key
 better_of plan None next = next
 better_of plan (Some best) None = Some best
-better_of plan (Some best) (Some next) = if int_lt (node_at plan best.node).priority (node_at plan next.node).priority then Some next else Some best
+better_of plan (Some best) (Some next) = if comes_before (member_of plan next.node) (member_of plan best.node) then Some next else Some best
 
 -- one mark for each ordinary node: whether it is done
 pub record AreDoneMarks (plan : Plan) (past : List Record) (marks : List Bool) : Type 0 where

@@ -12,6 +12,7 @@ pub mod Notes
 pub mod States
 pub mod Turns
 pub mod Queued
+pub mod Heads
 pub mod Core
 pub mod Choices
 pub mod Bound

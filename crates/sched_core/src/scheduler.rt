@@ -1,19 +1,22 @@
 //! The scheduler's core: a run of a plan as a lawful list of records.
 
-ghost use Rattle.std.specs.Prelude.{◌≡◌, ◌+◌, ◌<◌, ◌≤◌, ◌∷◌, [], ◌==◌, ◌&&◌, ◌||◌, ◌↔◌, not, suc, length, IsTrue, IsOk, IfOk, IfErr, IfSome, OnOk, OnErr, is_none, nat_le};
+ghost use Rattle.std.specs.Prelude.{◌≡◌, Some, false, ◌+◌, ◌<◌, ◌≤◌, ◌∷◌, [], ◌==◌, ◌&&◌, ◌||◌, ◌↔◌, not, suc, length, IsTrue, IsOk, IfOk, IfErr, IfSome, OnOk, OnErr, is_none, nat_le};
 ghost use Rattle.std.specs.List.{list_all};
 ghost use Rattle.run_plan.specs.Plan.{node_at, count_of, all_below};
 ghost use Rattle.sched_core.specs.Run.{chronological, history, next, is_done, is_in_error, attempts_in, value_in, is_aborted, outstanding, is_among, is_free, is_nothing, is_ready, is_final_ready, may_launch, job_launches, launch_number, status_of_abort, exit_status, is_over, is_open, may_follow, is_lawful, needs_rescue};
 ghost use Rattle.sched_core.specs.Fate.{shown};
-ghost use Rattle.sched_core.specs.Core.{Progress, is_running, fault_after, better_of, AreDoneMarks, IsBestBelow};
+ghost use Rattle.ready_queue.specs.Queue.{comes_before};
+ghost use Rattle.sched_core.specs.Core.{Progress, is_running, fault_after, better_of, AreDoneMarks, IsBestBelow, IsBestOf};
 ghost use Rattle.sched_core.specs.States.{IsStateOf};
 ghost use Rattle.sched_core.specs.Kept.{judged_place, IsLookedFor};
 ghost use Rattle.sched_core.specs.Looks.{stops, most_looks, further_looks};
 ghost use Rattle.sched_core.specs.Choices.{launchable, startable, IsChoice};
 ghost use Rattle.sched_core.specs.Limits.{lets_in};
-ghost use Rattle.sched_core.specs.Queued.{AreWaiting, AllThrottled};
+ghost use Rattle.sched_core.specs.Queued.{classes_of};
+ghost use Rattle.sched_core.specs.Heads.{AreWaiting, AreHeadsTaken, IsNextHead, class_of_key, class_of_next};
 ghost use Rattle.sched_core.specs.Ahead.{launch_of, launched, launches, may_launch_all, fitting, ends_of, AreChosen, NothingToStart};
-ghost use Rattle.sched_core.specs.Limits.{limits_of_categories, throttled_in};
+ghost use Rattle.node_machine.specs.declared.Key.{Key};
+ghost use Rattle.sched_core.specs.Limits.{IsBetter, member_of, throttled_in};
 ghost use Rattle.sched_core.specs.Round.{IsRound};
 ghost use Rattle.throttles.specs.Throttled.{with_one};
 ghost use Rattle.sched_core.specs.Commands.{facts_in};
@@ -26,11 +29,12 @@ use crate::nodes::{
     last_is_finish, last_is_open, may_end, next_at, number_of, push_in_room, status_after,
     throttle,
 };
-use crate::ready::{ClassedQueue, fresh_queue, is_ready_by};
+use crate::ready::{
+    ClassedQueue, class_of_key, count, fresh_queue, is_ready_by, lets_class, lets_none,
+};
 use crate::states::{Looked, NodeState, States};
 use crate::{Choice, CoreFault};
 use node_machine::{Ended, Key, Outcome, Record, State};
-use ready_queue::Member;
 use run_plan::Plan;
 use run_plan_node::PhaseFacts;
 use std::alloc::Global;
@@ -91,24 +95,46 @@ impl<'a> Model for Core<'a> {
     ghost invariant = { λ a. IsKept a.plan.now (chronological a.records.items) a.states a.aborted a.stop_status a.jobs a.throttles a.failed a.done a.queue };
 }
 
-/// The better of two phases, of which the second is of a later node.
+/// Whether one node is better than another: of greater priority, or of the same and first in plan
+/// order.
+fn is_better(plan: &Plan, node: u32, other: u32) -> bool
+    requires node { node ≤ count_of plan.now }
+    requires other { other ≤ count_of plan.now }
+    ensures { result ≡ comes_before (member_of plan.now node) (member_of plan.now other) }
+{
+    let own = plan.spec(node).priority();
+    let its = plan.spec(other).priority();
+    own > its || (own == its && node < other)
+}
+
+/// Whether a node comes before that of a phase, if there is one.
+fn comes_first(plan: &Plan, node: u32, best: Option<Key>) -> bool
+    requires node { node ≤ count_of plan.now }
+    requires best { IfSome best (λ key. key.node ≤ count_of plan.now) }
+    ensures { result ≡ false → (key : Key) × (best ≡ Some key) × (IsBetter plan.now node key.node → ⊥) }
+{
+    match best {
+        Some(key) => is_better(plan, node, key.node),
+        None => true,
+    }
+}
+
+/// The better of two phases.
 fn better_of(plan: &Plan, best: Option<Key>, next: Option<Key>) -> Option<Key>
     requires best { IfSome best (λ key. key.node ≤ count_of plan.now) }
     requires next { IfSome next (λ key. key.node ≤ count_of plan.now) }
     ensures { result ≡ better_of plan.now best next }
 {
-    match best {
-        None => next,
-        Some(old) => match next {
-            None => Some(old),
-            Some(new) => {
-                if plan.spec(old.node).priority() < plan.spec(new.node).priority() {
-                    Some(new)
-                } else {
-                    Some(old)
-                }
+    match (best, next) {
+        (Some(old), Some(new)) => {
+            if is_better(plan, new.node, old.node) {
+                Some(new)
+            } else {
+                Some(old)
             }
-        },
+        }
+        (Some(old), None) => Some(old),
+        (None, next) => next,
     }
 }
 
@@ -283,19 +309,19 @@ impl<'a> Core<'a> {
         is_ready_by(self.plan(), self.aborted(), node, state)
     }
 
-    /// The ordinary nodes that are ready, best first.
-    fn waiting(&self) -> &[Member]
-        ensures { AreWaiting self.now.plan self.now.past result.now }
+    /// The ordinary nodes that are ready, each in the queue of its next phase's class.
+    fn queue(&self) -> &ClassedQueue
+        ensures { AreWaiting self.now.plan self.now.past result.now.queues }
     {
         let _records = &self.records;
         let _graph = self.plan.graph();
-        self.queue.members()
+        &self.queue
     }
 
     fn nothing_ready(&self) -> bool
         ensures { result ≡ all_below (λ node. not (is_ready self.now.plan self.now.past node)) (count_of self.now.plan) }
     {
-        self.waiting().is_empty()
+        self.queue().is_empty()
     }
 
     /// Whether nothing is outstanding.
@@ -691,39 +717,101 @@ impl<'a> Core<'a> {
         }
     }
 
-    /// Whether these throttles hold each ordinary phase that may be launched: no node waits whose
-    /// next phase is of a kind, or of a job's category, that they let in. It goes over no nodes.
-    fn is_held(&self, throttles: &Throttles) -> bool
-        requires { throttles.now.categories ≡ limits_of_categories self.now.plan }
-        ensures { IsTrue result ↔ AllThrottled self.now.plan self.now.past throttles.now }
+    /// A node's phase that may be launched and is let in, once these phases are launched, which
+    /// these throttles count.
+    fn startable_behind(&self, keys: &[Key], throttles: &Throttles, node: u32) -> Option<Key>
+        requires node { node < count_of self.now.plan }
+        requires counted { throttles.now ≡ throttled_in self.now.limits self.now.plan
+            (outstanding self.now.plan (launched self.now.past keys.now)) }
+        ensures { result ≡ startable self.now.limits self.now.plan (launched self.now.past keys.now) node }
     {
-        let _records = &self.records;
-        let _graph = self.plan.graph();
-        self.queue.is_held(throttles)
+        let plan = self.plan;
+        let _graph = plan.graph();
+        match self.launchable(node) {
+            Some(key) => {
+                if is_among(keys, &key) {
+                    return None;
+                }
+                if throttles.may_start(key.phase, plan.spec(key.node).category()) {
+                    Some(key)
+                } else {
+                    None
+                }
+            }
+            None => None,
+        }
     }
 
-    /// Whether what runs holds each ordinary phase that may be launched.
-    fn is_held_now(&self) -> bool
-        ensures { IsTrue result → IsBestBelow self.now.limits self.now.plan self.now.past (count_of self.now.plan) None }
+    /// The better of the best of the classes before one, and of the head of this one: the first member
+    /// that is not taken. It is looked at where it comes first, and where the limits let its class in.
+    fn best_with_class(
+        &self,
+        queue: &ClassedQueue,
+        class: usize,
+        taken: &[u32],
+        keys: &[Key],
+        throttles: &Throttles,
+        best: Option<Key>,
+    ) -> Option<Key>
+        requires class { class < classes_of self.now.plan }
+        requires waiting { AreWaiting self.now.plan self.now.past queue.now.queues }
+        requires taken { AreHeadsTaken self.now.limits self.now.plan self.now.past queue.now.queues keys.now taken.now }
+        requires counted { throttles.now ≡ throttled_in self.now.limits self.now.plan
+            (outstanding self.now.plan (launched self.now.past keys.now)) }
+        requires best { IsBestOf self.now.limits self.now.plan (launched self.now.past keys.now)
+            (λ node. (node < count_of self.now.plan) × (class_of_next self.now.plan self.now.past node < class)) best }
+        requires head { IfSome best (λ key. IsNextHead queue.now.queues taken.now (class_of_key self.now.plan key) key.node) }
+        ensures best { IsBestOf self.now.limits self.now.plan (launched self.now.past keys.now)
+            (λ node. (node < count_of self.now.plan) × (class_of_next self.now.plan self.now.past node < class + 1)) result }
+        ensures head { IfSome result (λ key. IsNextHead queue.now.queues taken.now (class_of_key self.now.plan key) key.node) }
     {
-        let _records = &self.records;
-        self.is_held(&self.throttles)
+        match queue.head(class, taken) {
+            None => best,
+            Some(member) => {
+                if !comes_first(self.plan(), member.node, best) {
+                    return best;
+                }
+                if !lets_class(throttles, class) {
+                    return best;
+                }
+                let next = self.startable_behind(keys, throttles, member.node);
+                better_of(self.plan(), best, next)
+            }
+        }
+    }
+
+    /// Of the ordinary nodes the best whose phase may be launched and is let in, once these phases
+    /// are launched, which these throttles count, and of each class so many members are taken.
+    fn best_behind(
+        &self,
+        queue: &ClassedQueue,
+        taken: &[u32],
+        keys: &[Key],
+        throttles: &Throttles,
+    ) -> Option<Key>
+        requires waiting { AreWaiting self.now.plan self.now.past queue.now.queues }
+        requires taken { AreHeadsTaken self.now.limits self.now.plan self.now.past queue.now.queues keys.now taken.now }
+        requires counted { throttles.now ≡ throttled_in self.now.limits self.now.plan
+            (outstanding self.now.plan (launched self.now.past keys.now)) }
+        ensures best { IsBestBelow self.now.limits self.now.plan (launched self.now.past keys.now) (count_of self.now.plan) result }
+        ensures head { IfSome result (λ key. IsNextHead queue.now.queues taken.now (class_of_key self.now.plan key) key.node) }
+    {
+        if lets_none(throttles) {
+            return None;
+        }
+        let mut best = None;
+        for class in 0..queue.classes() {
+            best = self.best_with_class(queue, class, taken, keys, throttles, best);
+        }
+        best
     }
 
     /// Of the ordinary nodes the best whose phase may be launched and is let in.
     fn best_ordinary(&self) -> Option<Key>
         ensures { IsBestBelow self.now.limits self.now.plan self.now.past (count_of self.now.plan) result }
     {
-        if self.is_held_now() {
-            return None;
-        }
-        for member in self.waiting() {
-            match self.startable(member.node) {
-                Some(key) => return Some(key),
-                None => {}
-            }
-        }
-        None
+        let _records = &self.records;
+        self.best_behind(self.queue(), &[], &[], &self.throttles)
     }
 
     /// The best phase that may be launched and is let in.
@@ -751,31 +839,6 @@ impl<'a> Core<'a> {
         }
     }
 
-    /// A node's phase that may be launched and is let in, once these phases are launched, which
-    /// these throttles count.
-    fn startable_behind(&self, keys: &[Key], throttles: &Throttles, node: u32) -> Option<Key>
-        requires node { node < count_of self.now.plan }
-        requires counted { throttles.now ≡ throttled_in self.now.limits self.now.plan
-            (outstanding self.now.plan (launched self.now.past keys.now)) }
-        ensures { result ≡ startable self.now.limits self.now.plan (launched self.now.past keys.now) node }
-    {
-        let plan = self.plan;
-        let _graph = plan.graph();
-        match self.launchable(node) {
-            Some(key) => {
-                if is_among(keys, &key) {
-                    return None;
-                }
-                if throttles.may_start(key.phase, plan.spec(key.node).category()) {
-                    Some(key)
-                } else {
-                    None
-                }
-            }
-            None => None,
-        }
-    }
-
     /// Counts one launch more after these.
     fn count_launch(&self, keys: &[Key], throttles: &mut Throttles, key: Key)
         requires node { key.node < count_of self.now.plan }
@@ -796,24 +859,27 @@ impl<'a> Core<'a> {
         ensures ok { IfOk result (λ keys. IsRound self.now.limits self.now.plan self.now.past max keys.items) }
         ensures err { IfErr result (λ fault. fault ≡ CoreFault.Memory) }
     {
-        let _graph = self.plan().graph();
-        let members = self.waiting();
+        let plan = self.plan();
+        let _graph = plan.graph();
+        let _nodes = plan.count();
+        let queue = self.queue();
         let mut throttles = match self.throttles.copied(alloc) {
             Ok(throttles) => throttles,
             Err(_) => return Err(CoreFault::Memory),
         };
+        let mut taken = vec![in alloc; 0; queue.classes()]?;
         let mut keys = Vec::new(alloc);
-        let mut held = self.is_held(&throttles);
-        let mut place = 0;
-        while place < members.len() && keys.len() < max && !held {
-            if let Some(key) = self.startable_behind(&keys, &throttles, members[place].node) {
-                self.count_launch(&keys, &mut throttles, key);
-                if keys.push(key).is_err() {
-                    return Err(CoreFault::Memory);
+        while keys.len() < max {
+            match self.best_behind(queue, &taken, &keys, &throttles) {
+                None => return Ok(keys),
+                Some(key) => {
+                    self.count_launch(&keys, &mut throttles, key);
+                    count(&mut taken, class_of_key(plan, &key));
+                    if keys.push(key).is_err() {
+                        return Err(CoreFault::Memory);
+                    }
                 }
-                held = self.is_held(&throttles);
             }
-            place += 1;
         }
         Ok(keys)
     }

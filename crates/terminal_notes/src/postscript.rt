@@ -7,7 +7,7 @@ ghost use Rattle.terminal_notes.specs.Postscripts.{is_postscript_due};
 use crate::changes::{changed_files, quoted};
 use crate::reports::{ended_text, totals_of};
 use crate::workers::standing_text;
-use dag_main_check::Console;
+use dag_main_check::{Console, REFUSED};
 use dag_main_files::{Reading, SystemFolder, files_of};
 use file_hints::{Wanted, hints_of};
 use round_inputs::ByFiles;
@@ -15,9 +15,6 @@ use std::alloc::AllocError;
 use std::fs::File;
 use std::rt::{Env, Files};
 use std::time::{Clock, Duration};
-
-/// The exit status of a command that is refused.
-const REFUSED: u8 = 125;
 
 /// What is displayed after a drawing that is folded though nobody asked for it.
 const FOLDED: &str =

@@ -1,14 +1,10 @@
 use Rattle.std.proofs.Common.{rules, ◌≡◌, ◌||◌, ℕ, List, Bor, IfOk, Ok, map, string_bytes, refl, subst, sym}
-use Rattle.dag_main_files.specs.Folder.{any_paths}
-use Rattle.dag_main_files.specs.Opened.{changing}
 use Rattle.dag_main_run.specs.Sites.{rounds_at}
 use Rattle.dag_main_args.specs.declared.request.Request.{Request}
 use Rattle.dag_main_args.specs.Requests.{asked_by}
 use Rattle.dag_main_check.specs.declared.form.CheckForm.{CheckForm}
 use Rattle.dagrun.specs.Answered.{AreHints, ComesTo, changing_files, held_in, redo_contract, command_contract, checks_some, checks_from, IsCheckWith}
-use Rattle.dag_main_run.specs.RunChanges.{found_where}
-use Rattle.redo.specs.Changes.{MakesRedo}
-use Rattle.dagrun.specs.Changes.{ChangesAs}
+use Rattle.dagrun.specs.Changes.{ChangesAs, MakesRedoWhere, known_where}
 use Rattle.dagrun.proofs.Worlds.{request-to}
 use Rattle.dagrun.proofs.answers.answer_in.Goals as goal
 
@@ -77,45 +73,45 @@ returns-in-Rehearse-clause-held g c = λ honest run.
 
 pub returns-in-Run-clause-changes : goal.returns-in-Run-clause-changes
 returns-in-Run-clause-changes g c =
-    subst (λ (request : Request). ChangesAs (found_where (g.F.Folder.honest c.args.folder.now) (g.F.Folder.holds c.args.folder.now) (g.F.Folder.has c.args.folder.now))
+    subst (λ (request : Request). ChangesAs (known_where (g.F.Folder.honest c.args.folder.now) (g.F.Folder.holds c.args.folder.now) (g.F.Folder.has c.args.folder.now))
     (rounds_at g.F.Journal.Disk g.F.Rescue.Disk (g.F.Site.own c.args.folder.now) (g.F.Folder.honest c.args.folder.now) (g.F.Folder.holds c.args.folder.now)) (asked_by request)
     c.run_in.result c.args.changes.now c.run_in.new.changes) (sym c.in-Run.is) c.run_in.ensures.changes
 
 pub returns-in-Salvage-clause-changes : goal.returns-in-Salvage-clause-changes
 returns-in-Salvage-clause-changes g c =
-    subst (λ (request : Request). ChangesAs (found_where (g.F.Folder.honest c.args.folder.now) (g.F.Folder.holds c.args.folder.now) (g.F.Folder.has c.args.folder.now))
+    subst (λ (request : Request). ChangesAs (known_where (g.F.Folder.honest c.args.folder.now) (g.F.Folder.holds c.args.folder.now) (g.F.Folder.has c.args.folder.now))
     (rounds_at g.F.Journal.Disk g.F.Rescue.Disk (g.F.Site.own c.args.folder.now) (g.F.Folder.honest c.args.folder.now) (g.F.Folder.holds c.args.folder.now)) (asked_by request)
     c.salvage_in.result c.args.changes.now c.salvage_in.new.changes) (sym c.in-Salvage.is) c.salvage_in.ensures.changes
 
 pub returns-in-Redo-clause-changes : goal.returns-in-Redo-clause-changes
 returns-in-Redo-clause-changes g c =
     let same : c.deref.result.now ≡ c.in-Redo.nodes.items = search rules in
-    subst (λ (request : Request). ChangesAs (found_where (g.F.Folder.honest c.args.folder.now) (g.F.Folder.holds c.args.folder.now) (g.F.Folder.has c.args.folder.now))
+    subst (λ (request : Request). ChangesAs (known_where (g.F.Folder.honest c.args.folder.now) (g.F.Folder.holds c.args.folder.now) (g.F.Folder.has c.args.folder.now))
     (rounds_at g.F.Journal.Disk g.F.Rescue.Disk (g.F.Site.own c.args.folder.now) (g.F.Folder.honest c.args.folder.now) (g.F.Folder.holds c.args.folder.now)) (asked_by request)
     c.redo_in.result c.args.changes.now c.redo_in.new.changes) (sym c.in-Redo.is)
-    (subst (λ (ns : List (Bor (List ℕ))). MakesRedo changing any_paths c.in-Redo.dag.now (map (λ (n : Bor (List ℕ)). n.now) ns) c.in-Redo.only
+    (subst (λ (ns : List (Bor (List ℕ))). MakesRedoWhere (g.F.Folder.honest c.args.folder.now) (g.F.Folder.holds c.args.folder.now) (g.F.Folder.has c.args.folder.now) c.in-Redo.dag.now (map (λ (n : Bor (List ℕ)). n.now) ns) c.in-Redo.only c.in-Redo.as_begun
     c.redo_in.result c.args.changes.now c.redo_in.new.changes) same c.redo_in.ensures.changes)
 
 pub returns-in-Show-clause-changes : goal.returns-in-Show-clause-changes
 returns-in-Show-clause-changes g c =
-    subst (λ (request : Request). ChangesAs (found_where (g.F.Folder.honest c.args.folder.now) (g.F.Folder.holds c.args.folder.now) (g.F.Folder.has c.args.folder.now))
+    subst (λ (request : Request). ChangesAs (known_where (g.F.Folder.honest c.args.folder.now) (g.F.Folder.holds c.args.folder.now) (g.F.Folder.has c.args.folder.now))
     (rounds_at g.F.Journal.Disk g.F.Rescue.Disk (g.F.Site.own c.args.folder.now) (g.F.Folder.honest c.args.folder.now) (g.F.Folder.holds c.args.folder.now)) (asked_by request)
     c.show.result c.args.changes.now c.args.changes.now) (sym c.in-Show.is) refl
 
 pub returns-in-Check-clause-changes : goal.returns-in-Check-clause-changes
 returns-in-Check-clause-changes g c =
-    subst (λ (request : Request). ChangesAs (found_where (g.F.Folder.honest c.args.folder.now) (g.F.Folder.holds c.args.folder.now) (g.F.Folder.has c.args.folder.now))
+    subst (λ (request : Request). ChangesAs (known_where (g.F.Folder.honest c.args.folder.now) (g.F.Folder.holds c.args.folder.now) (g.F.Folder.has c.args.folder.now))
     (rounds_at g.F.Journal.Disk g.F.Rescue.Disk (g.F.Site.own c.args.folder.now) (g.F.Folder.honest c.args.folder.now) (g.F.Folder.holds c.args.folder.now)) (asked_by request)
     c.check.result c.args.changes.now c.args.changes.now) (sym c.in-Check.is) refl
 
 pub returns-in-Rehearse-clause-changes : goal.returns-in-Rehearse-clause-changes
 returns-in-Rehearse-clause-changes g c =
-    subst (λ (request : Request). ChangesAs (found_where (g.F.Folder.honest c.args.folder.now) (g.F.Folder.holds c.args.folder.now) (g.F.Folder.has c.args.folder.now))
+    subst (λ (request : Request). ChangesAs (known_where (g.F.Folder.honest c.args.folder.now) (g.F.Folder.holds c.args.folder.now) (g.F.Folder.has c.args.folder.now))
     (rounds_at g.F.Journal.Disk g.F.Rescue.Disk (g.F.Site.own c.args.folder.now) (g.F.Folder.honest c.args.folder.now) (g.F.Folder.holds c.args.folder.now)) (asked_by request)
     c.rehearse.result c.args.changes.now c.args.changes.now) (sym c.in-Rehearse.is) refl
 
 pub returns-in-Page-clause-changes : goal.returns-in-Page-clause-changes
 returns-in-Page-clause-changes g c =
-    subst (λ (request : Request). ChangesAs (found_where (g.F.Folder.honest c.args.folder.now) (g.F.Folder.holds c.args.folder.now) (g.F.Folder.has c.args.folder.now))
+    subst (λ (request : Request). ChangesAs (known_where (g.F.Folder.honest c.args.folder.now) (g.F.Folder.holds c.args.folder.now) (g.F.Folder.has c.args.folder.now))
     (rounds_at g.F.Journal.Disk g.F.Rescue.Disk (g.F.Site.own c.args.folder.now) (g.F.Folder.honest c.args.folder.now) (g.F.Folder.holds c.args.folder.now)) (asked_by request)
     (Ok c.page.result) c.args.changes.now c.args.changes.now) (sym c.in-Page.is) refl

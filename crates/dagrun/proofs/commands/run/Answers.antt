@@ -1,8 +1,7 @@
 use Rattle.std.proofs.Common.{refl, subst}
 use Rattle.dag_main_args.specs.Requests.{Asked}
 use Rattle.dag_main_run.specs.Sites.{rounds_at}
-use Rattle.dag_main_run.specs.RunChanges.{found_where}
-use Rattle.dagrun.specs.Changes.{ChangesAs, as_asked, nothing_asked}
+use Rattle.dagrun.specs.Changes.{known_where, ChangesAs, as_asked, nothing_asked}
 use Rattle.dagrun.specs.Answered.{AreHints, IsReply, of_reply, of_refused_words, replied, words_refused, no_memory}
 use Rattle.dagrun.proofs.Requests.{lent_words, asks-for, no-request, exits-without-memory}
 use Rattle.dagrun.proofs.commands.run.Goals as goal
@@ -29,7 +28,7 @@ returns-in-Ok-clause-changes g c = as_asked c.in-Ok.request c.answer-reply.resul
     (subst (λ (asked : Asked). IsReply (g.H.Host.honest c.args.host.now) (g.H.Host.is_lost c.args.host.now) (g.H.Host.world c.args.host.now)
     (rounds_at g.H.Here.Journal.Disk g.H.Here.Rescue.Disk (g.H.Host.own c.args.host.now) (g.H.Host.honest c.args.host.now) (g.H.Host.world c.args.host.now).holds) asked c.answer-reply.result)
     c.request_at.ensures c.answer-reply.ensures.reply)
-    (subst (λ (asked : Asked). ChangesAs (found_where (g.H.Host.honest c.args.host.now) (g.H.Host.world c.args.host.now).holds (g.H.Host.world c.args.host.now).has)
+    (subst (λ (asked : Asked). ChangesAs (known_where (g.H.Host.honest c.args.host.now) (g.H.Host.world c.args.host.now).holds (g.H.Host.world c.args.host.now).has)
     (rounds_at g.H.Here.Journal.Disk g.H.Here.Rescue.Disk (g.H.Host.own c.args.host.now) (g.H.Host.honest c.args.host.now) (g.H.Host.world c.args.host.now).holds) asked
     c.answer-reply.result c.args.changes.now c.answer-reply.new.changes) c.request_at.ensures c.answer-reply.ensures.changes)
 

@@ -1,94 +1,78 @@
-use Rattle.std.proofs.Common.{◌≡◌, ◌∙◌, ◌+◌, ◌<◌, ◌≤◌, pos, List, [], ◌∷◌, ◌++◌, length, get_or, None, Some, ap, sym, subst, arith, rules}
+use Rattle.std.proofs.Common.{◌≡◌, ◌∙◌, ◌+◌, ◌<◌, ◌++◌, ◌∷◌, ℕ, List, [], length, take, drop, replicate, Some, ap, sym, subst, arith, rules}
+use Rattle.std.proofs.lemmas.List.{length-replicate}
+use Rattle.std.proofs.Math.Seq.{take-append_seam}
 use Rattle.node_machine.specs.declared.Key.{Key}
-use Rattle.ready_queue.specs.declared.Member.{Member}
-use Rattle.run_plan.specs.Plan.{count_of, node_at}
+use Rattle.run_plan.specs.Plan.{Plan, count_of}
 use Rattle.run_plan.specs.Planned.{IsPlanned}
-use Rattle.throttles.specs.Throttled.{Throttled, with_one}
-use Rattle.sched_core.specs.Choices.{startable}
+use Rattle.sched_core.specs.Core.{IsBestBelow}
+use Rattle.sched_core.specs.Run.{outstanding}
+use Rattle.sched_core.specs.Limits.{throttled_in}
 use Rattle.sched_core.specs.Ahead.{launched}
-use Rattle.sched_core.specs.Queued.{AllThrottled}
-use Rattle.sched_core.proofs.Best.{startable-node}
-use Rattle.sched_core.proofs.Holding.{held-none}
-use Rattle.sched_core.proofs.Queues.{have-ready, waiting-node}
-use Rattle.sched_core.proofs.Ahead.{Going, goes-by, goes-on, all-passed}
-use Rattle.sched_core.proofs.scheduler.Core.ordinary_round.Goals.{in-Some+else-is_err, in_default, then-loop-place-test+then-len-max+else-not-held, then-loop-place-test+else-len-max, else-loop-place-test}
+use Rattle.sched_core.specs.Queued.{classes_of, count_at, share}
+use Rattle.sched_core.specs.Heads.{IsNextHead, class_of_key}
+use Rattle.sched_core.proofs.Shares.{none-at}
+use Rattle.sched_core.proofs.Going.{IsGoing, taken-none, head-few, goes-on}
 use Rattle.sched_core.proofs.scheduler.Core.ordinary_round.Goals as goal
 
-abbrev member : Member
-member = record { node = 0; priority = pos 0 }
-
-pub startable_behind-requires-clause-node : goal.startable_behind-requires-clause-node
-startable_behind-requires-clause-node c =
-    waiting-node c.args.self.now.plan c.args.self.now.past c.waiting-members.result.now c.loop-place.place member (have-ready c.args.self.now.plan c.args.self.now.past c.waiting-members.result.now c.waiting-members.ensures) c.loop-place-test.true
-
-pub count_launch-requires-clause-node : goal.count_launch-requires-clause-node
-count_launch-requires-clause-node c =
+pub loop-plan-init : goal.loop-plan-init
+loop-plan-init c =
     let limits = c.args.self.now.limits in
     let plan = c.args.self.now.plan in
     let past = c.args.self.now.past in
-    let own = get_or c.waiting-members.result.now c.loop-place.place member in
-    let some : startable limits plan (launched past c.deref.result.now) own.node ≡ Some c.in-Some.key = sym c.in-Some.ensures in
-    let at = startable-node limits plan (launched past c.deref.result.now) own.node c.in-Some.key some in
-    subst (λ n. n < count_of plan) (sym at) (waiting-node plan past c.waiting-members.result.now c.loop-place.place member (have-ready c.args.self.now.plan c.args.self.now.past c.waiting-members.result.now c.waiting-members.ensures) c.loop-place-test.true)
+    let queues = c.queue-queue.result.now.queues in
+    let keys : c.new-keys.result.items ≡ [] = c.new-keys.ensures.items in
+    let zeros : c.in_ok-taken.taken.items ≡ replicate c.classes.result 0 = search rules in
+    let counted : c.in-Ok.throttles ≡ throttled_in limits plan (outstanding plan past) = search rules in
+    subst (λ (l : List Key). IsGoing limits plan past queues c.args.max l c.in_ok-taken.taken.items c.in-Ok.throttles) (sym keys)
+    (record {
+      ordinary = λ i d lt. absurd (omega (arith, lt));
+      chosen = tt;
+      few = omega arith;
+      counted = counted;
+      heads = taken-none limits plan past queues c.in_ok-taken.taken.items (λ class. ap (λ (l : List ℕ). count_at l class) zeros ∙ none-at c.classes.result class);
+      long = ap (λ (l : List ℕ). length l) zeros ∙ length-replicate c.classes.result 0 ∙ c.classes.ensures ∙ c.queue-queue.ensures.are.many;
+    })
 
-pub loop-place-preserved : goal.loop-place-preserved
-loop-place-preserved c =
+pub count-requires-clause-room : goal.count-requires-clause-room
+count-requires-clause-room c =
+    let plan = c.args.self.now.plan in
+    let past = c.args.self.now.past in
+    let queues = c.queue-queue.result.now.queues in
+    let taken = c.loop-plan.taken.items in
+    let own : c.class_of_key.result ≡ class_of_key plan c.in-Some.key = c.class_of_key.ensures.is ∙ ap (λ (p : Plan). class_of_key p c.in-Some.key) c.plan-plan.ensures in
+    let within : class_of_key plan c.in-Some.key < classes_of plan = (let w = c.class_of_key.ensures.within in let e = ap classes_of c.plan-plan.ensures in omega (arith, w, e, own)) in
+    let head : IsNextHead queues taken (class_of_key plan c.in-Some.key) c.in-Some.key.node =
+    subst (λ (l : List ℕ). IsNextHead queues l (class_of_key plan c.in-Some.key) c.in-Some.key.node) c.deref.ensures.value c.in-Some.ensures.head in
+    let few = head-few plan past queues taken (class_of_key plan c.in-Some.key) c.in-Some.key.node c.queue-queue.ensures within head in
+    let same : count_at c.deref_mut.result.now c.class_of_key.result ≡ count_at taken (class_of_key plan c.in-Some.key) = (λ j. count_at (c.deref_mut.ensures.value j) (own j)) in
+    let room = c.count-nodes.ensures.room in let is : c.count-nodes.result ≡ count_of plan = c.count-nodes.ensures.is ∙ ap count_of c.plan-plan.ensures in
+    omega (arith, few, same, room, is)
+
+pub loop-plan-preserved : goal.loop-plan-preserved
+loop-plan-preserved c =
     let limits = c.args.self.now.limits in
     let plan = c.args.self.now.plan in
     let past = c.args.self.now.past in
-    let members = c.waiting-members.result.now in
-    let place = c.loop-place.place in
-    let keys = c.loop-place.keys.items in
-    let planned : IsPlanned plan = subst IsPlanned c.plan.ensures c.graph-graph.ensures.made in
-    let going = c.loop-place.invariant.going in
-    let own = get_or members place member in
-    let to_items : (k : List Key) → k ≡ c.match-startable_behind.keys.items → Going limits plan past members c.args.max (place + 1) k c.match-startable_behind.throttles
-    → Going limits plan past members c.args.max (place + 1) c.match-startable_behind.keys.items c.match-startable_behind.throttles =
-    λ k is g. subst (λ (l : List Key). Going limits plan past members c.args.max (place + 1) l c.match-startable_behind.throttles) is g in
-    let to_throttles : (k : List Key) (t : Throttled) → t ≡ c.match-startable_behind.throttles → Going limits plan past members c.args.max (place + 1) k t
-    → Going limits plan past members c.args.max (place + 1) k c.match-startable_behind.throttles =
-    λ k t is g. subst (λ (u : Throttled). Going limits plan past members c.args.max (place + 1) k u) is g in
-    record {
-      inside = omega (arith, c.loop-place-test.true);
-      going = elim c.match-startable_behind.branch [
-        | in-Some+else-is_err w ↦
-            let key = w.in-Some.key in
-            let some : startable limits plan (launched past keys) own.node ≡ Some key =
-            ap (λ (ks : List Key). startable limits plan (launched past ks) own.node) (sym c.deref.ensures.value) ∙ sym w.in-Some.ensures in
-            let pushed : w.push.new.self.items ≡ keys ++ key ∷ [] = search rules in
-            let room : length keys < c.args.max = search rules in
-            to_items (keys ++ key ∷ []) (sym pushed ∙ ap (λ (v : _). v.items) (sym w.keys-is))
-            (to_throttles (keys ++ key ∷ []) (record c.loop-place.throttles { running = with_one c.loop-place.throttles.running key.phase (node_at plan key.node).category })
-            (sym w.count_launch.ensures ∙ sym w.throttles-is)
-            (goes-on limits plan past members c.args.max place keys c.loop-place.throttles c.loop-place-test.true member going planned (have-ready c.args.self.now.plan c.args.self.now.past c.waiting-members.result.now c.waiting-members.ensures) key some room))
-        | in_default w ↦
-            let none : startable limits plan (launched past keys) own.node ≡ None =
-            ap (λ (ks : List Key). startable limits plan (launched past ks) own.node) (sym c.deref.ensures.value) ∙ sym w.in_default.ensures in
-            to_items keys (ap (λ (v : _). v.items) (sym w.keys-is))
-            (to_throttles keys c.loop-place.throttles (sym w.throttles-is)
-            (goes-by limits plan past members c.args.max place keys c.loop-place.throttles c.loop-place-test.true member going none))
-      ];
-      held = λ t. elim c.match-startable_behind.branch [
-        | in-Some+else-is_err w ↦ subst (AllThrottled plan past) (sym w.throttles-is) (w.is_held-held-in-Some.ensures.0 (sym w.held-is ∙ t))
-        | in_default w ↦ subst (AllThrottled plan past) (sym w.throttles-is) (c.loop-place.invariant.held (sym w.held-is ∙ t))
-      ];
-    }
-
-pub returns-clause-ok : goal.returns-clause-ok
-returns-clause-ok c =
-    let going = c.loop-place.invariant.going in
-    record {
-      ordinary = going.ordinary;
-      chosen = going.chosen;
-      few = going.few;
-      all = λ fewer. elim c.loop-place-test.branch [
-        | then-loop-place-test+else-len-max w ↦
-            let full : c.args.max ≤ length c.loop-place.keys.items = search rules in
-            absurd (omega (arith, full, fewer))
-        | then-loop-place-test+then-len-max+else-not-held w ↦
-            held-none c.args.self.now.limits c.args.self.now.plan c.args.self.now.past c.loop-place.keys.items c.loop-place.throttles going.counted (c.loop-place.invariant.held (search rules))
-        | else-loop-place-test w ↦
-            all-passed c.args.self.now.limits c.args.self.now.plan c.args.self.now.past c.waiting-members.result.now (have-ready c.args.self.now.plan c.args.self.now.past c.waiting-members.result.now c.waiting-members.ensures) c.loop-place.keys.items
-            (λ k d lt. going.passed k d (omega (arith, lt, w.loop-place-test.false)))
-      ];
-    }
+    let queues = c.queue-queue.result.now.queues in
+    let keys = c.loop-plan.keys.items in
+    let taken = c.loop-plan.taken.items in
+    let going = c.loop-plan.invariant in
+    let key = c.in-Some.key in
+    let new = c.count.new.counts in
+    let planned : IsPlanned plan = subst IsPlanned c.plan-plan.ensures c.graph-graph.ensures.made in
+    let own : c.class_of_key.result ≡ class_of_key plan key = c.class_of_key.ensures.is ∙ ap (λ (p : Plan). class_of_key p key) c.plan-plan.ensures in
+    let within : class_of_key plan key < classes_of plan = (let w = c.class_of_key.ensures.within in let e = ap classes_of c.plan-plan.ensures in omega (arith, w, e, own)) in
+    let head : IsNextHead queues taken (class_of_key plan key) key.node = subst (λ (l : List ℕ). IsNextHead queues l (class_of_key plan key) key.node) c.deref.ensures.value c.in-Some.ensures.head in
+    let best : IsBestBelow limits plan (launched past keys) (count_of plan) (Some key) =
+    subst (λ (l : List Key). IsBestBelow limits plan (launched past l) (count_of plan) (Some key)) c.deref-in-loop-plan.ensures.value c.in-Some.ensures.best in
+    let one : (class : ℕ) → count_at new class ≡ count_at taken class + share (class_of_key plan key) class =
+    λ class. c.count.ensures.more class ∙ (λ j. count_at (c.deref_mut.ensures.value j) class + share (own j) class) in
+    let long : length new ≡ length taken = c.count.ensures.many ∙ ap (λ (l : List ℕ). length l) c.deref_mut.ensures.value in
+    let whole : take c.loop-plan.taken.len (new ++ drop (length new) taken) ≡ new =
+    (let e : c.loop-plan.taken.len ≡ length new = search rules in ap (λ n. take n (new ++ drop (length new) taken)) e) ∙ take-append_seam new (drop (length new) taken) in
+    let room : length keys < c.args.max = search rules in
+    let pushed : c.push.new.self.items ≡ keys ++ key ∷ [] = search rules in
+    subst (λ (l : List Key). IsGoing limits plan past queues c.args.max l (take c.loop-plan.taken.len (new ++ drop (length new) taken)) c.count_launch.new.throttles) (sym pushed)
+    (subst (λ (l : List ℕ). IsGoing limits plan past queues c.args.max (keys ++ key ∷ []) l c.count_launch.new.throttles) (sym whole)
+    (subst (IsGoing limits plan past queues c.args.max (keys ++ key ∷ []) new) (sym c.count_launch.ensures)
+    (goes-on limits plan planned past queues c.queue-queue.ensures keys taken new going.heads key best.0 best.1 within head one c.args.max c.loop-plan.throttles going best room long)))
