@@ -111,6 +111,21 @@ set-each plan node class now old new set others absent other = by_same class oth
     with-own true = sym (eq-eqb class class refl)
     with-own false = refl
 
+-- a node whose class and readiness stay
+pub set-stays : (plan : Plan) (node : ℕ) (was now : Bool) (before class : ℕ) (old : List Queue) → was ≡ now → before ≡ class → (was ≡ true → Contains (members_at old before) (member_of plan node))
+    → ((other : ℕ) → other < classes_of plan → Contains (members_at old other) (member_of plan node) → (was ≡ true) × (before ≡ other))
+    → (other : ℕ) → other < classes_of plan → IsSet plan node (now && (class == other)) (members_at old other) (members_at old other)
+set-stays plan node was now before class old same place there only other w =
+    same-set plan node (now && (class == other)) (members_at old other)
+    (λ t.
+    let p = and_parts now (class == other) t in
+    subst (λ c. Contains (members_at old c) (member_of plan node)) (place ∙ eqb-true class other p.1) (there (same ∙ p.0)))
+    (λ f has.
+    let is = only other w has in
+    let now_is : now ≡ true = sym same ∙ is.0 in
+    let here : (class == other) ≡ true = eq-eqb class other (sym place ∙ is.1) in
+    false≢true (sym f ∙ (λ j. now_is j && here j)))
+
 -- a member is taken out, and then put in or not
 pub set-after : (plan : Plan) (node : ℕ) (now : Bool) (old mid new : List Member) → IsSet plan node false old mid → IsSet plan node now mid new → IsSet plan node now old new
 set-after plan node now old mid new first next = record {

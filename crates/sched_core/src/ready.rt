@@ -302,12 +302,16 @@ impl ClassedQueue {
         requires class { class < classes_of plan.now }
         requires may { may_be_of plan.now class node ≡ true }
         requires are { AreQueues plan.now self.old.queues }
+        requires there { was ≡ true → Contains (members_at self.old.queues before) (member_of plan.now node) }
         requires only { (other : ℕ) → other < classes_of plan.now → Contains (members_at self.old.queues other) (member_of plan.now node)
             → (was ≡ true) × (before ≡ other) }
         ensures are { AreQueues plan.now self.new.queues }
         ensures set { (other : ℕ) → other < classes_of plan.now
             → IsSet plan.now node (now && (class == other)) (members_at self.old.queues other) (members_at self.new.queues other) }
     {
+        if was == now && before == class {
+            return;
+        }
         self.take_out(plan, node, was, before);
         self.put_in(plan, node, now, class);
     }

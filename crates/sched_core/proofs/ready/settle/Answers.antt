@@ -18,6 +18,17 @@ change-requires-clause-only c = λ other w has.
     let own = c.requires.queued.only other w c.args.looked.node lt (subst (λ n. Contains (members_at c.args.queue.now.queues other) (member_of plan n)) c.node-node.ensures has) in
     (c.requires.was lt ∙ own.0, before ∙ own.1)
 
+pub change-requires-clause-there : goal.change-requires-clause-there
+change-requires-clause-there c = λ t.
+    let plan = c.args.plan.now in
+    let lt : c.args.looked.node < count_of plan = (let t = c.if-node-count.true in let e = c.node-node.ensures in let n = c.count.ensures.is in omega (arith, t, e, n)) in
+    let before : c.class_by-before.result ≡ class_by (run_at c.args.states.now.runs c.args.looked.node).machine.phase (node_at plan c.args.looked.node).category =
+    c.class_by-before.ensures.is ∙ (λ j. class_by (c.read.ensures.run j).machine.phase (node_at plan c.node-node.result).category)
+    ∙ ap (λ n. class_by (run_at c.args.states.now.runs n).machine.phase (node_at plan n).category) c.node-node.ensures in
+    subst (λ k. Contains (members_at c.args.queue.now.queues k) (member_of plan c.node-node.result)) (sym before)
+    (subst (λ n. Contains (members_at c.args.queue.now.queues (class_by (run_at c.args.states.now.runs c.args.looked.node).machine.phase (node_at plan c.args.looked.node).category)) (member_of plan n)) (sym c.node-node.ensures)
+    (c.requires.queued.ready c.args.looked.node lt (sym (c.requires.was lt) ∙ t)))
+
 pub returns-then-node-count-clause-queued : goal.returns-then-node-count-clause-queued
 returns-then-node-count-clause-queued c =
     let plan = c.args.plan.now in let state = c.args.looked.state in
